@@ -1,0 +1,3 @@
+// Bits by their order alone: the first sent is the first taken.
+pub mod source;
+pub mod text;
