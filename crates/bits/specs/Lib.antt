@@ -1,3 +1,4 @@
+pub mod Buffers
 pub mod Octets
 pub mod Source
 pub mod Text

@@ -8,7 +8,7 @@ use lib.ListN.{length, take, drop, length-append, length-drop}
 use Rattle.std.proofs.shelf.Lists.{drop-at}
 use Rattle.receiver.specs.declared.answer.Answer.{Answer}
 use Rattle.receiver.specs.declared.answer.Answer.the-variants.{Aborted, Refused, Frame, Paused, Dry}
-use Rattle.receiver.specs.Listening.{Stops, Fills, IsVerdict}
+use Rattle.receiver.specs.Listening.{Stops, Fills, IsVerdict, Listens}
 
 pub lost-more : {X : Type 0} (start t mid after : List X) (b : X) → start ≡ t ++ mid → mid ≡ b ∷ after → start ≡ (t ++ b ∷ []) ++ after
 lost-more start t mid after b p q = p ∙ ap (λ l. t ++ l) q ∙ sym (append-assoc t (b ∷ []) after)
@@ -35,3 +35,17 @@ module _ (n : ℕ) (octets old new : List ℕ) (long : length (take n octets) �
 
   pub copied-rest : drop n new ≡ drop n old
   copied-rest = ap (drop n) after ∙ drop-at (take n octets) (drop n old) n long
+
+some-taken : (a : Answer) (allowance taken : ℕ) (after : List Bool) → Stops a allowance taken after → (a ≡ Dry → ⊥) → 0 < allowance → 0 < taken
+some-taken Aborted allowance taken after stops wet allowed = stops .0
+some-taken (Refused f) allowance taken after stops wet allowed = stops .0
+some-taken (Frame n) allowance taken after stops wet allowed = stops .0
+some-taken Paused allowance taken after stops wet allowed = omega arith
+some-taken Dry allowance taken after stops wet allowed = absurd (wet refl)
+
+-- a call that did not run dry left fewer bits waiting
+pub fewer-wait : {before after : List Bool} {allowance taken : ℕ} {old new : List ℕ} {a : Answer}
+  → Listens before after allowance taken old new a → (a ≡ Dry → ⊥) → 0 < allowance → length after < length before
+fewer-wait {before} {after} {allowance} {taken} {old} {new} {a} l wet allowed =
+    let some = some-taken a allowance taken after (l .stops) wet allowed in
+    omega (arith, ap length (l .lost), length-append (l .bits) after, l .counts)

@@ -49,9 +49,7 @@ impl Store {
         ensures long { λ _. ⌜ length (front n (now (self .entry) .octets)) ≡ n ⌝ }
         ensures after { λ _. ⌜ now (buffer .exit) ≡ front n (now (self .entry) .octets) ++ drop n (now (buffer .entry)) ⌝ }
     {
-        for i in 0..n {
-            buffer[i] = self.octets[i];
-        }
+        buffer[0..n].copy_from_slice(&self.octets[0..n]);
     }
 
     // The verdict on what is held but for the last six bits, which are the closing flag's.
