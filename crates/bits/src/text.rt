@@ -18,7 +18,9 @@ impl<'a> TextSource<'a> {
         ensures { λ r. ⌜ textWaiting r ≡ textBits (front 65536 (now (octets .entry))) ⌝ }
     {
         if octets.len() > MOST_TEXT {
-            TextSource { rest: &octets[0..MOST_TEXT] }
+            TextSource {
+                rest: &octets[0..MOST_TEXT],
+            }
         } else {
             TextSource { rest: octets }
         }

@@ -69,7 +69,7 @@ unfolding moved
 moved-xor r s b d =
     ap (λ n. bitXor n (mask (xor (odd (bitXor r s)) (xor b d)))) (xor-shr r s 1)
     ∙ ap (bitXor (bitXor (r / 2) (s / 2)))
-      (ap (λ o. mask (xor o (xor b d))) (odd-xor r s) ∙ ap mask (xor-swap (odd r) (odd s) b d) ∙ mask-xor (xor (odd r) b) (xor (odd s) d))
+    (ap (λ o. mask (xor o (xor b d))) (odd-xor r s) ∙ ap mask (xor-swap (odd r) (odd s) b d) ∙ mask-xor (xor (odd r) b) (xor (odd s) d))
     ∙ swap (r / 2) (s / 2) (mask (xor (odd r) b)) (mask (xor (odd s) d))
 
 pub after-xor : (k r s a b : ℕ) → after (bitXor r s) (low k (bitXor a b)) ≡ bitXor (after r (low k a)) (after s (low k b))

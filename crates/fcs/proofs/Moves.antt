@@ -48,7 +48,7 @@ index v o h = and-mask (bitXor v o) 8 ∙ xor-mod v o 8 ∙ ap (bitXor (v % 256)
 
 -- one octet: the table's entry at the octet combined with the low half, combined with the high half
 pub octet-step : (xs : List ℕ) (v o : ℕ) → T (OctetMoves 0 xs) → length xs ≡ 256 → o < 256
-  → bitXor (v / 256) (getD xs (bitAnd (bitXor v o) 255) 0) ≡ after v (low 8 o)
+    → bitXor (v / 256) (getD xs (bitAnd (bitXor v o) 255) 0) ≡ after v (low 8 o)
 octet-step xs v o t n h =
     let low-half : v % 256 < 2 ^ 8 = omega arith in
     let within : bitXor (v % 256) o < length xs = omega (arith, xor-lt 8 (v % 256) o low-half h) in

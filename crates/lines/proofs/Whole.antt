@@ -17,7 +17,7 @@ module _ (head os : List ℕ) where
 
   -- the end of the line, behind its head and its pairs
   pub ended : (old buffer : List ℕ) (end : ℕ) → end ≡ length head + 2 * length os → end < length old
-    → buffer ≡ over (head ++ joined hexPair os) old → set buffer end 10 ≡ over (head ++ joined hexPair os ++ 10 ∷ []) old
+      → buffer ≡ over (head ++ joined hexPair os) old → set buffer end 10 ≡ over (head ++ joined hexPair os ++ 10 ∷ []) old
   ended old buffer end is room was =
       let place : end ≡ length (head ++ joined hexPair os) = omega (arith, length-append head (joined hexPair os), length-hex os) in
       ap (λ l. set l end 10) was

@@ -17,7 +17,10 @@ impl Draft {
         ensures text { λ r. ⌜ drafted r ≡ [] ⌝ }
         ensures len { λ r. ⌜ r .len ≡ 0 ⌝ }
     {
-        Draft { text: [0; 64], len: 0 }
+        Draft {
+            text: [0; 64],
+            len: 0,
+        }
     }
 
     pub fn push(&mut self, octet: u8)

@@ -18,10 +18,23 @@ mod put;
 // A verdict with its ordinal from 1 and all bits taken so far, or the total at the end.
 #[derive(Clone, Copy)]
 pub enum Line<'a> {
-    Refused { ordinal: u64, taken: u64, fault: Fault },
-    Aborted { ordinal: u64, taken: u64 },
-    Frame { ordinal: u64, taken: u64, octets: &'a [u8] },
-    Taken { total: u64 },
+    Refused {
+        ordinal: u64,
+        taken: u64,
+        fault: Fault,
+    },
+    Aborted {
+        ordinal: u64,
+        taken: u64,
+    },
+    Frame {
+        ordinal: u64,
+        taken: u64,
+        octets: &'a [u8],
+    },
+    Taken {
+        total: u64,
+    },
 }
 
 // Why no line is made.
@@ -65,7 +78,11 @@ fn head(line: &Line<'_>) -> Draft
     ensures few { λ r. ⌜ r .len ≤ 64 ⌝ }
 {
     match line {
-        Line::Refused { ordinal, taken, fault } => {
+        Line::Refused {
+            ordinal,
+            taken,
+            fault,
+        } => {
             let mut draft = stamped(*ordinal, *taken);
             draft.push_text(b"refused ");
             draft.push_number(fault.number() as u64);
@@ -76,7 +93,11 @@ fn head(line: &Line<'_>) -> Draft
             draft.push_text(b"aborted");
             draft
         }
-        Line::Frame { ordinal, taken, octets: _ } => {
+        Line::Frame {
+            ordinal,
+            taken,
+            octets: _,
+        } => {
             let mut draft = stamped(*ordinal, *taken);
             draft.push_text(b"frame ");
             draft
@@ -108,9 +129,20 @@ fn octets_of<'a>(line: Line<'a>) -> &'a [u8]
     ensures { λ r. ⌜ now r ≡ frameOctets (line .entry) ⌝ }
 {
     match line {
-        Line::Refused { ordinal: _, taken: _, fault: _ } => &[],
-        Line::Aborted { ordinal: _, taken: _ } => &[],
-        Line::Frame { ordinal: _, taken: _, octets } => octets,
+        Line::Refused {
+            ordinal: _,
+            taken: _,
+            fault: _,
+        } => &[],
+        Line::Aborted {
+            ordinal: _,
+            taken: _,
+        } => &[],
+        Line::Frame {
+            ordinal: _,
+            taken: _,
+            octets,
+        } => octets,
         Line::Taken { total: _ } => &[],
     }
 }

@@ -45,7 +45,7 @@ some-taken Dry allowance taken after stops wet allowed = absurd (wet refl)
 
 -- a call that did not run dry left fewer bits waiting
 pub fewer-wait : {before after : List Bool} {allowance taken : ℕ} {old new : List ℕ} {a : Answer}
-  → Listens before after allowance taken old new a → (a ≡ Dry → ⊥) → 0 < allowance → length after < length before
+    → Listens before after allowance taken old new a → (a ≡ Dry → ⊥) → 0 < allowance → length after < length before
 fewer-wait {before} {after} {allowance} {taken} {old} {new} {a} l wet allowed =
     let some = some-taken a allowance taken after (l .stops) wet allowed in
     omega (arith, ap length (l .lost), length-append (l .bits) after, l .counts)

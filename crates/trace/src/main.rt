@@ -23,7 +23,13 @@ struct Tracer {
 
 impl Tracer {
     fn new() -> Tracer {
-        Tracer { receiver: Receiver::new(), ordinal: 0, taken: 0, frame: [0; 2061], line: [0; 4200] }
+        Tracer {
+            receiver: Receiver::new(),
+            ordinal: 0,
+            taken: 0,
+            frame: [0; 2061],
+            line: [0; 4200],
+        }
     }
 
     // Listens until the piece is dry.
@@ -63,10 +69,18 @@ impl Tracer {
 fn verdict_line(ordinal: u64, taken: u64, answer: Answer, frame: &[u8]) -> Option<Line<'_>> {
     match answer {
         Answer::Aborted => Some(Line::Aborted { ordinal, taken }),
-        Answer::Refused(fault) => Some(Line::Refused { ordinal, taken, fault }),
+        Answer::Refused(fault) => Some(Line::Refused {
+            ordinal,
+            taken,
+            fault,
+        }),
         Answer::Frame(n) => {
             let octets = frame.get(0..n)?;
-            Some(Line::Frame { ordinal, taken, octets })
+            Some(Line::Frame {
+                ordinal,
+                taken,
+                octets,
+            })
         }
         Answer::Paused => None,
         Answer::Dry => None,

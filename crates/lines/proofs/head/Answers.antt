@@ -21,10 +21,10 @@ pub returns-in-Refused : need.returns-in-Refused
 returns-in-Refused c =
     record {
       text =
-        c .push-number .ensures .text
-        ∙ ap (λ n. drafted (c .push-text .last .self) ++ decimal n) (c .number .ensures)
-        ∙ ap (λ l. l ++ decimal (faultNumber (c .in-Refused .fault))) (c .push-text .ensures .text ∙ ap (λ l. l ++ codes "refused ") (c .stamped-draft .ensures .text))
-        ∙ ap headText (sym (c .in-Refused .is));
+          c .push-number .ensures .text
+          ∙ ap (λ n. drafted (c .push-text .last .self) ++ decimal n) (c .number .ensures)
+          ∙ ap (λ l. l ++ decimal (faultNumber (c .in-Refused .fault))) (c .push-text .ensures .text ∙ ap (λ l. l ++ codes "refused ") (c .stamped-draft .ensures .text))
+          ∙ ap headText (sym (c .in-Refused .is));
       few = omega (arith, c .stamped-draft .ensures .few, c .push-text .ensures .len, c .push-number .ensures .len, three-digits (c .number .result) (omega (arith, c .number .ok)));
     }
 
@@ -32,8 +32,8 @@ pub returns-in-Taken : need.returns-in-Taken
 returns-in-Taken c =
     record {
       text =
-        c .push-number-in-Taken .ensures .text
-        ∙ ap (λ l. l ++ decimal (c .in-Taken .total)) (c .push-text-in-Taken .ensures .text ∙ ap (λ l. l ++ codes "taken ") (c .new-draft .ensures .text))
-        ∙ ap headText (sym (c .in-Taken .is));
+          c .push-number-in-Taken .ensures .text
+          ∙ ap (λ l. l ++ decimal (c .in-Taken .total)) (c .push-text-in-Taken .ensures .text ∙ ap (λ l. l ++ codes "taken ") (c .new-draft .ensures .text))
+          ∙ ap headText (sym (c .in-Taken .is));
       few = omega (arith, c .new-draft .ensures .len, c .push-text-in-Taken .ensures .len, c .push-number-in-Taken .ensures .len, few-digits (c .in-Taken .total) (omega arith));
     }

@@ -19,11 +19,11 @@ returns-then-room-draft c =
     let line = c .args .line in
     let held : length (c .head-draft .result .text) ≡ 64 = search needs in
     let head : length (headText line) ≡ c .head-draft .result .len =
-        sym (ap length (c .head-draft .ensures .text)) ∙ length-take-le (c .head-draft .result .len) (c .head-draft .result .text) (omega (arith, c .head-draft .ensures .few)) in
+    sym (ap length (c .head-draft .ensures .text)) ∙ length-take-le (c .head-draft .result .len) (c .head-draft .result .text) (omega (arith, c .head-draft .ensures .few)) in
     let octets : length (c .octets-of-octets .result .now) ≡ length (frameOctets line) = ap length (c .octets-of-octets .ensures) in
     let whole = length-line (headText line) (frameOctets line) in
     let short : length (c .args .buffer .now) < length (lineText line) =
-        elim (c .then-room-draft .came) [ then-room-draft·by·then-room-draft w ↦ omega arith | then-room-draft·by·else-room-draft·then-room-draft-2 w ↦ omega arith ] in
+    elim (c .then-room-draft .came) [ then-room-draft·by·then-room-draft w ↦ omega arith | then-room-draft·by·else-room-draft·then-room-draft-2 w ↦ omega arith ] in
     record { refuses = lt-false (length (lineText line)) (length (c .args .buffer .now)) short; makes = refl }
 
 pub returns : need.returns
@@ -38,10 +38,10 @@ returns c =
     let whole = length-line (headText line) (frameOctets line) in
     let z : draft .len - 0 ≡ draft .len = omega arith in
     let text : c .put-text .last .buffer ≡ over (headText line) old =
-        c .put-text .ensures ∙ ap (λ n. over (take n (draft .text)) old) z ∙ ap (λ l. over l old) (c .head-draft .ensures .text) in
+    c .put-text .ensures ∙ ap (λ n. over (take n (draft .text)) old) z ∙ ap (λ l. over l old) (c .head-draft .ensures .text) in
     let pairs : c .put-hex-end .last .buffer ≡ over (headText line ++ joined hexPair (frameOctets line)) old =
-        c .put-hex-end .ensures .after (headText line) old head (sym (c .put-text .kept .buffer)) text
-        ∙ ap (λ l. over (headText line ++ joined hexPair l) old) (c .octets-of-octets .ensures) in
+    c .put-hex-end .ensures .after (headText line) old head (sym (c .put-text .kept .buffer)) text
+    ∙ ap (λ l. over (headText line ++ joined hexPair l) old) (c .octets-of-octets .ensures) in
     record {
       refuses = le-true (length (lineText line)) (length old) (omega arith);
       makes = (

@@ -22,9 +22,9 @@ pub returns : need.returns
 returns c =
     record {
       text =
-        c .push-2 .ensures .text
-        ∙ ap (λ l. l ++ codes " ")
+          c .push-2 .ensures .text
+          ∙ ap (λ l. l ++ codes " ")
           (c .push-number-2 .ensures .text ∙ ap (λ l. l ++ decimal (c .args .taken)) (c .push .ensures .text ∙ ap (λ l. l ++ codes " ")
-            (c .push-number .ensures .text ∙ ap (λ l. l ++ decimal (c .args .ordinal)) (c .new-draft .ensures .text))));
+          (c .push-number .ensures .text ∙ ap (λ l. l ++ decimal (c .args .ordinal)) (c .new-draft .ensures .text))));
       few = omega (arith, few-digits (c .args .ordinal) (omega arith), few-digits (c .args .taken) (omega arith), c .new-draft .ensures .len, c .push-number .ensures .len, c .push .ensures .len, c .push-number-2 .ensures .len, c .push-2 .ensures .len);
     }

@@ -17,7 +17,12 @@ const MOST_OCTETS: usize = 2_061;
 
 impl Receiver {
     pub fn new() -> Receiver {
-        Receiver { state: State::Idle, ones: 0, left_out: false, store: Store::new() }
+        Receiver {
+            state: State::Idle,
+            ones: 0,
+            left_out: false,
+            store: Store::new(),
+        }
     }
 
     // The carrier is lost: the receiver hunts for a whole flag again.
@@ -26,7 +31,12 @@ impl Receiver {
     }
 
     // Takes bits until a verdict falls due, the allowance is used or no bit waits.
-    pub fn listen<S: BitSource>(&mut self, source: &mut S, allowance: u32, buffer: &mut [u8]) -> Result<Heard, ListenError>
+    pub fn listen<S: BitSource>(
+        &mut self,
+        source: &mut S,
+        allowance: u32,
+        buffer: &mut [u8],
+    ) -> Result<Heard, ListenError>
         ensures refuses { λ r. ⌜ isOk r ≡ leb 2061 (length (now (buffer .entry))) ⌝ }
         ensures answers { λ r. ⌜ Cases r
             (λ h. Listens (S·BitSource .waiting (now (source .entry))) (S·BitSource .waiting (now (source .exit))) allowance (h .taken) (now (buffer .entry)) (now (buffer .exit)) (h .answer))
@@ -38,7 +48,10 @@ impl Receiver {
         let mut taken = 0;
         while taken < allowance {
             match source.take() {
-                None => return Ok(Heard { answer: Answer::Dry, taken }),
+                None => return Ok(Heard {
+                    answer: Answer::Dry,
+                    taken,
+                }),
                 Some(bit) => {
                     taken += 1;
                     match self.hear(bit) {
@@ -53,7 +66,10 @@ impl Receiver {
                 }
             }
         }
-        Ok(Heard { answer: Answer::Paused, taken })
+        Ok(Heard {
+            answer: Answer::Paused,
+            taken,
+        })
     }
 
     // One bit more, and the verdict that falls due on it.
@@ -102,7 +118,11 @@ impl Receiver {
         if self.ones == 6 {
             self.state = State::Idle;
             // the six bits are the break's own where nothing stands before them
-            if self.store.count() < 6 { None } else { Some(Answer::Aborted) }
+            if self.store.count() < 6 {
+                None
+            } else {
+                Some(Answer::Aborted)
+            }
         } else if self.ones == 5 {
             self.ones = 6;
             None

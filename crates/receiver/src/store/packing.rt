@@ -11,7 +11,11 @@ use fcs::check_sequence;
 
 impl Store {
     pub fn new() -> Store {
-        Store { count: 0, octet: 0, octets: [0; 2063] }
+        Store {
+            count: 0,
+            octet: 0,
+            octets: [0; 2063],
+        }
     }
 
     pub fn clear(&mut self) {

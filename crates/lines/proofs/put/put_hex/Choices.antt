@@ -11,4 +11,4 @@ abbrev pub Inv-loop-octet : given.InvT-loop-octet
 Inv-loop-octet l =
     (l .end ≡ l .at + 2 * l .octet-index)
     × ((done old : List ℕ) → length done ≡ l .at → length old ≡ length (l .entry .buffer) → l .entry .buffer ≡ over done old
-      → l .buffer ≡ over (done ++ joined hexPair (take (l .octet-index) (l .octets))) old)
+    → l .buffer ≡ over (done ++ joined hexPair (take (l .octet-index) (l .octets))) old)

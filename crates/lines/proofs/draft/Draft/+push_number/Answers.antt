@@ -36,9 +36,9 @@ returns-else-n-lt10 t c =
     let last = (48 + n % 10) ∷ [] in
     record {
       text =
-        c .push-else-n-lt10 .ensures .text
-        ∙ ap (λ l. l ++ last) (c .push-number .ensures .text)
-        ∙ append-assoc old (decimal (n / 10)) last
-        ∙ ap (λ l. old ++ l) (sym (decimal-step n (c .if-n-lt10 .left) (omega arith)));
+          c .push-else-n-lt10 .ensures .text
+          ∙ ap (λ l. l ++ last) (c .push-number .ensures .text)
+          ∙ append-assoc old (decimal (n / 10)) last
+          ∙ ap (λ l. old ++ l) (sym (decimal-step n (c .if-n-lt10 .left) (omega arith)));
       len = omega (arith, c .push-else-n-lt10 .ensures .len, c .push-number .ensures .len, length-more n (c .if-n-lt10 .left) (omega arith));
     }

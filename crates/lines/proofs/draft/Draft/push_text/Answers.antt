@@ -10,12 +10,11 @@ pub loop-octet-again : need.loop-octet-again
 loop-octet-again c =
     let old = drafted (c .args .self .now) in
     let text = c .args .text .now in
-    let i = c .loop-octet .octet-index in
-    (
+    let i = c .loop-octet .octet-index in (
       c .push .ensures .text
-      ∙ ap (λ l. l ++ getD text i 0 ∷ []) (c .loop-octet .inv .0)
-      ∙ append-assoc old (take i text) (getD text i 0 ∷ [])
-      ∙ ap (λ l. old ++ l) (sym (take-more text i 0 (c .loop-octet-test .taken))),
+          ∙ ap (λ l. l ++ getD text i 0 ∷ []) (c .loop-octet .inv .0)
+          ∙ append-assoc old (take i text) (getD text i 0 ∷ [])
+          ∙ ap (λ l. old ++ l) (sym (take-more text i 0 (c .loop-octet-test .taken))),
       omega (arith, c .push .ensures .len),
     )
 

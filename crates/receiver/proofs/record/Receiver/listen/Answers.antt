@@ -13,8 +13,7 @@ pub loop-taken-again : need.loop-taken-again
 loop-taken-again g c =
     let i = c .loop-taken .inv in
     let b = c .in-Some .bit in
-    let long = length-push (i .0) b in
-    (
+    let long = length-push (i .0) b in (
       i .0 ++ b ∷ [],
       lost-more (g .S·BitSource .waiting (c .args .source .now)) (i .0) (g .S·BitSource .waiting (c .loop-taken .source)) (g .S·BitSource .waiting (c .take .last .self)) b (i .1) (c .in-Some .ensures tt),
       omega arith,

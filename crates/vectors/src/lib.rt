@@ -1,0 +1,5 @@
+// Executed cases, many to a test: what the contracts promise, seen to happen.
+mod fcs_cases;
+mod line_cases;
+mod listening_cases;
+mod text_cases;
