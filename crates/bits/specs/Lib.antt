@@ -1,4 +1,6 @@
 pub mod Buffers
 pub mod Octets
+pub mod Packed
+pub mod Sink
 pub mod Source
 pub mod Text

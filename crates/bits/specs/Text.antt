@@ -1,10 +1,12 @@
 -- Bits as text: octet 30h is a 0 and 31h a 1; all else is passed over.
-use mathlib.Core.List.{List, [], _∷_, _++_}
+use mathlib.Core.List.{List, [], _∷_, map}
 use mathlib.Core.Bool.{Bool, true, false, cond}
-use Prim.Native.Nat.{ℕ}
+use Prim.Native.Nat.{ℕ, _-_}
 use lib.Dec.{eqb}
+use lib.ListN.{take}
 use Rattle.std.specs.Joined.{joined}
 use Rattle.bits.specs.declared.text.TextSource.{TextSource}
+use Rattle.bits.specs.declared.text_sink.TextSink.{TextSink}
 
 -- the bit that an octet stands for, or none
 abbrev pub textBit : ℕ → List Bool
@@ -17,3 +19,14 @@ textBits os = joined textBit os
 -- what waits in a text source: the bits of the text not yet passed
 abbrev pub textWaiting : TextSource → List Bool
 textWaiting s = textBits (s .rest .now)
+
+-- the octet that a bit is written as
+abbrev pub textOctet : Bool → ℕ
+textOctet b = cond b 49 48
+
+-- what a text sink holds: a bit for each octet written, 1 for 31h
+abbrev pub textHeld : TextSink → List Bool
+textHeld s = map (λ o. eqb o 49) (take (s .count) (s .octets .now))
+
+abbrev pub textSpace : TextSink → ℕ
+textSpace s = s .end - s .count
