@@ -1,3 +1,4 @@
 pub mod Behind
+pub mod Bounds
 pub mod Linear
 pub mod Moves

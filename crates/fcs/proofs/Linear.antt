@@ -1,32 +1,19 @@
 -- The register is linear: registers and bits combined by exclusive or move to the registers' combination.
 use mathlib.Core.Path.{_≡_, refl, sym, ap, _∙_}
-use mathlib.Core.Logic.{_⊎_, inl, inr}
 use mathlib.Core.Bool.{Bool, true, false, cond, xor}
 use Prim.Native.Nat.{ℕ, zero, suc, _+_, _*_, _/_, _%_, _^_, _<_}
 use native.Mathlib.Nat.{pow-suc}
 use native.Mathlib.Omega.{arith}
-use lib.Bits.{bitXor, xor-comm, xor-assoc, xor-shr, xor-mod, xor-zero-r, shifted-half, shifted-even}
+use lib.Bits.{bitXor, xor-comm, xor-assoc, xor-shr, xor-zero-r, shifted-half, shifted-even}
 use lib.Dec.{eqb}
 use Rattle.std.specs.Iters.{folded}
 use Rattle.bits.specs.Octets.{low}
+use Rattle.bits.proofs.Low.{odd-xor}
 use Rattle.fcs.specs.Sequence.{moved, after}
-
-parity : (n : ℕ) → (n % 2 ≡ 0) ⊎ (n % 2 ≡ 1)
-parity n = grind arith
 
 -- the lowest bit
 abbrev odd : ℕ → Bool
 odd n = eqb (n % 2) 1
-
-odd-by : (a b : ℕ) → (a ≡ 0) ⊎ (a ≡ 1) → (b ≡ 0) ⊎ (b ≡ 1) → eqb (bitXor a b) 1 ≡ xor (eqb a 1) (eqb b 1)
-unfolding xor
-odd-by a b (inl p) (inl q) = rw (p, q)
-odd-by a b (inl p) (inr q) = rw (p, q)
-odd-by a b (inr p) (inl q) = rw (p, q)
-odd-by a b (inr p) (inr q) = rw (p, q)
-
-odd-xor : (a b : ℕ) → odd (bitXor a b) ≡ xor (odd a) (odd b)
-odd-xor a b = ap (λ n. eqb n 1) (xor-mod a b 1) ∙ odd-by (a % 2) (b % 2) (parity a) (parity b)
 
 -- what a bit that differs brings in
 abbrev mask : Bool → ℕ

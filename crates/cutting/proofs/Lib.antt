@@ -1,0 +1,15 @@
+pub mod Back
+pub mod Bridge
+pub mod Judging
+pub mod Keeping
+pub mod Last
+pub mod Local
+pub mod Members
+pub mod Prefix
+pub mod Removal
+pub mod Scan
+pub mod Scanner
+pub mod Steps
+pub mod Stuffs
+pub mod Verdicts
+pub mod Written

@@ -1,0 +1,4 @@
+pub mod Combining
+pub mod Registers
+pub mod Sequences
+pub mod Windows

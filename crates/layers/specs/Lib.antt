@@ -1,0 +1,3 @@
+pub mod Burst
+pub mod Sequence
+pub mod Scrambling

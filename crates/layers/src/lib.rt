@@ -1,0 +1,4 @@
+// Layers over any source and any sink, stackable in any order and depth.
+pub mod burst;
+pub mod register;
+pub mod scrambling;
