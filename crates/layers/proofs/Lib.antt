@@ -1,4 +1,5 @@
 pub mod Combining
 pub mod Registers
+pub mod Scrambles
 pub mod Sequences
 pub mod Windows

@@ -81,10 +81,14 @@ pub impl<S: BitSink> BitSink for ScrambledSink<S> as ScrambledBitSink {
 
     fn cut_back(&mut self, count: usize) -> Result<(), SinkError> {
         let held = self.below.count();
-        self.below.cut_back(count)?;
-        for _ in count..held {
-            self.register = moved_back(self.register);
+        match self.below.cut_back(count) {
+            Err(e) => Err(e),
+            Ok(()) => {
+                for _ in count..held {
+                    self.register = moved_back(self.register);
+                }
+                Ok(())
+            }
         }
-        Ok(())
     }
 }
