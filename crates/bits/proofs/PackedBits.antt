@@ -32,8 +32,8 @@ module _ (os : List ℕ) (at end : ℕ) where
       drop-all at (take end (sent os)) (search (arith, over))
 
 -- as many bits as were put are held
-pub held-length : (os : List ℕ) (count end : ℕ) → count ≤ end → end ≤ 8 * length os → length (take count (sent os)) ≡ count
-held-length os count end filled within = length-take-le count (sent os) (omega (arith, length-sent os))
+pub held-length : (os : List ℕ) (count : ℕ) → count ≤ 8 * length os → length (take count (sent os)) ≡ count
+held-length os count within = length-take-le count (sent os) (omega (arith, length-sent os))
 
 -- one bit more in the memory is one bit more held
 pub held-more : (os os′ : List ℕ) (count : ℕ) (b : Bool) → count < 8 * length os → sent os′ ≡ set (sent os) count b

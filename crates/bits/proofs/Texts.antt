@@ -27,8 +27,8 @@ passed-over xs not0 not1 h =
 abbrev isOne : ℕ → Bool
 isOne o = eqb o 49
 
-pub written-length : (os : List ℕ) (count end : ℕ) → count ≤ end → end ≤ length os → length (map isOne (take count os)) ≡ count
-written-length os count end filled within = length-map (take count os) isOne ∙ length-take-le count os (omega arith)
+pub written-length : (os : List ℕ) (count : ℕ) → count ≤ length os → length (map isOne (take count os)) ≡ count
+written-length os count within = length-map (take count os) isOne ∙ length-take-le count os within
 
 pub written-more : (os : List ℕ) (count : ℕ) (b : Bool) → count < length os
   → map isOne (take (count + 1) (set os count (textOctet b))) ≡ map isOne (take count os) ++ b ∷ []

@@ -15,9 +15,16 @@ usable octets bits = min bits (8 * min 16384 (length octets))
 abbrev pub packedWaiting : PackedSource → List Bool
 packedWaiting s = drop (s .at) (take (s .end) (sent (s .octets .now)))
 
+-- where a packed sink ends: at the bits that it uses, within its memory; and how many bits were put
+abbrev pub packedEnd : PackedSink → ℕ
+packedEnd s = min (s .end) (8 * length (s .octets .now))
+
+abbrev pub packedCount : PackedSink → ℕ
+packedCount s = min (s .count) (packedEnd s)
+
 -- what a packed sink holds: the bits in its memory, as many as were put
 abbrev pub packedHeld : PackedSink → List Bool
-packedHeld s = take (s .count) (sent (s .octets .now))
+packedHeld s = take (packedCount s) (sent (s .octets .now))
 
 abbrev pub packedSpace : PackedSink → ℕ
-packedSpace s = s .end - s .count
+packedSpace s = packedEnd s - packedCount s

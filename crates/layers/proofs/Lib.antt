@@ -2,4 +2,5 @@ pub mod Combining
 pub mod Registers
 pub mod Scrambles
 pub mod Sequences
+pub mod Undoing
 pub mod Windows

@@ -1,3 +1,6 @@
 pub mod Burst
-pub mod Sequence
+pub mod Copying
+pub mod Laws
+pub mod Pile
 pub mod Scrambling
+pub mod Sequence

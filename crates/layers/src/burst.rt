@@ -52,6 +52,7 @@ impl<S: BitSink> BurstSink<S> {
     pub fn new(below: S, n: usize) -> BurstSink<S>
         ensures held { λ r. ⌜ burstHeld (S·BitSink .held) r ≡ S·BitSink .held below ⌝ }
         ensures space { λ r. ⌜ burstSpace (S·BitSink .space) r ≡ min (window n) (S·BitSink .space below) ⌝ }
+        ensures below { λ r. ⌜ r .below ≡ below ⌝ }
     {
         let left = n.min(MOST_BURST);
         BurstSink { below, left }

@@ -53,6 +53,7 @@ impl<S: BitSink> ScrambledSink<S> {
     pub fn new(below: S, given: &[bool; 15]) -> ScrambledSink<S>
         ensures held { λ r. ⌜ scrambledHeld (S·BitSink .held) r ≡ combined (sequence (now (given .entry))) (negℤ (pos (length (S·BitSink .held below)))) (S·BitSink .held below) ⌝ }
         ensures space { λ r. ⌜ scrambledSpace (S·BitSink .space) r ≡ S·BitSink .space below ⌝ }
+        ensures below { λ r. ⌜ r .below ≡ below ⌝ }
     {
         let register = holding(given);
         ScrambledSink { below, register }

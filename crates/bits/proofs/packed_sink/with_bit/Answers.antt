@@ -3,7 +3,7 @@ use native.Mathlib.Omega.{arith}
 use lib.ListN.{set}
 use Rattle.bits.specs.Octets.{low}
 use Rattle.bits.proofs.OneBit.{raised-bit, lowered-bit}
-use Rattle.bits.proofs.packed_sink.putting.with_bit.Needs as need
+use Rattle.bits.proofs.packed_sink.with_bit.Needs as need
 
 pub returns-then-bit : need.returns-then-bit
 returns-then-bit c =
