@@ -14,16 +14,16 @@ use Rattle.bits.proofs.Sent.{length-sent, low-at, sent-at}
 module _ (os : List ℕ) (at end : ℕ) where
   -- the bit at a place, as it is read
   pub next-bit : at < end → at / 8 < length os
-    → drop at (take end (sent os)) ≡ eqb (bitAnd (getD os (at / 8) 0 / 2 ^ (at % 8)) 1) 1 ∷ drop (at + 1) (take end (sent os))
+      → drop at (take end (sent os)) ≡ eqb (bitAnd (getD os (at / 8) 0 / 2 ^ (at % 8)) 1) 1 ∷ drop (at + 1) (take end (sent os))
   next-bit before within =
       let long = length-sent os in
       let held = length-take end (sent os) in
       drop-more (take end (sent os)) at false (omega arith)
       ∙ ap (λ b. b ∷ drop (at + 1) (take end (sent os)))
-        (getD-take end (sent os) at false before
-        ∙ sent-at os at (omega arith)
-        ∙ low-at 8 (getD os (at / 8) 0) (at % 8) (omega arith)
-        ∙ ap (λ n. eqb n 1) (sym (and-mask (getD os (at / 8) 0 / 2 ^ (at % 8)) 1)))
+      (getD-take end (sent os) at false before
+      ∙ sent-at os at (omega arith)
+      ∙ low-at 8 (getD os (at / 8) 0) (at % 8) (omega arith)
+      ∙ ap (λ n. eqb n 1) (sym (and-mask (getD os (at / 8) 0 / 2 ^ (at % 8)) 1)))
 
   pub none-left : (at < end → at / 8 < length os → ⊥) → drop at (take end (sent os)) ≡ []
   none-left over =
@@ -37,6 +37,6 @@ held-length os count within = length-take-le count (sent os) (omega (arith, leng
 
 -- one bit more in the memory is one bit more held
 pub held-more : (os os′ : List ℕ) (count : ℕ) (b : Bool) → count < 8 * length os → sent os′ ≡ set (sent os) count b
-  → take (count + 1) (sent os′) ≡ take count (sent os) ++ b ∷ []
+    → take (count + 1) (sent os′) ≡ take count (sent os) ++ b ∷ []
 held-more os os′ count b room is =
     ap (take (count + 1)) is ∙ take-more-set (sent os) count b (omega (arith, length-sent os))

@@ -61,7 +61,7 @@ block-at (o ∷ os) (suc i) k h few =
     ∙ block-at os i k (omega arith) few
 
 block-set : (os : List ℕ) (i k o : ℕ) (b : Bool) → i < length os → k < 8 → low 8 o ≡ set (low 8 (getD os i 0)) k b
-  → sent (set os i o) ≡ set (sent os) (8 * i + k) b
+    → sent (set os i o) ≡ set (sent os) (8 * i + k) b
 unfolding sent
 block-set [] i k o b h few is = absurd (omega arith)
 block-set (x ∷ os) zero k o b h few is =
@@ -84,7 +84,7 @@ sent-at os n h =
 
 -- one bit of one octet changed
 pub sent-set : (os : List ℕ) (n o : ℕ) (b : Bool) → n < 8 * length os → low 8 o ≡ set (low 8 (getD os (n / 8) 0)) (n % 8) b
-  → sent (set os (n / 8) o) ≡ set (sent os) n b
+    → sent (set os (n / 8) o) ≡ set (sent os) n b
 sent-set os n o b h is =
     let whole : 8 * (n / 8) + n % 8 ≡ n = omega arith in
     block-set os (n / 8) (n % 8) o b (omega arith) (omega arith) is ∙ ap (λ m. set (sent os) m b) whole

@@ -31,7 +31,7 @@ pub written-length : (os : List ℕ) (count : ℕ) → count ≤ length os → l
 written-length os count within = length-map (take count os) isOne ∙ length-take-le count os within
 
 pub written-more : (os : List ℕ) (count : ℕ) (b : Bool) → count < length os
-  → map isOne (take (count + 1) (set os count (textOctet b))) ≡ map isOne (take count os) ++ b ∷ []
+    → map isOne (take (count + 1) (set os count (textOctet b))) ≡ map isOne (take count os) ++ b ∷ []
 written-more os count b room =
     ap (map isOne) (take-more-set os count (textOctet b) room)
     ∙ map-push isOne (take count os) (textOctet b)

@@ -27,7 +27,11 @@ impl<'a> PackedSink<'a> {
         ensures lent { λ r. ⌜ name (r .octets) ≡ name (octets .entry) ⌝ }
     {
         let end = bits.min(8 * octets.len().min(MOST_PACKED));
-        PackedSink { octets, count: 0, end }
+        PackedSink {
+            octets,
+            count: 0,
+            end,
+        }
     }
 
     // Hands the memory back, with what was put into it.
@@ -93,5 +97,9 @@ fn with_bit(octet: u8, place: usize, bit: bool) -> u8
     ensures { λ r. ⌜ low 8 r ≡ set (low 8 octet) place bit ⌝ }
 {
     let mask = 1 << place;
-    if bit { octet | mask } else { octet & (mask ^ 0xFF) }
+    if bit {
+        octet | mask
+    } else {
+        octet & (mask ^ 0xFF)
+    }
 }

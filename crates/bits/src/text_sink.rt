@@ -25,7 +25,11 @@ impl<'a> TextSink<'a> {
         ensures lent { λ r. ⌜ name (r .octets) ≡ name (octets .entry) ⌝ }
     {
         let end = MOST_TEXT.min(octets.len());
-        TextSink { octets, count: 0, end }
+        TextSink {
+            octets,
+            count: 0,
+            end,
+        }
     }
 
     // Hands the memory back, with what was put into it.

@@ -91,4 +91,4 @@ pub record Placed : Type 0 where
 pub data AllDue (s : Bits) : ℕ → List Placed → Type 0 where
   no-more : {n : ℕ} → ((e : ℕ) (v : Verdict) → n < e → Due s e v → ⊥) → AllDue s n []
   next : {n : ℕ} {l : List Placed} (p : Placed) → n < p .place → Due s (p .place) (p .verdict)
-    → ((k : ℕ) (w : Verdict) → n < k → k < p .place → Due s k w → ⊥) → AllDue s (p .place) l → AllDue s n (p ∷ l)
+      → ((k : ℕ) (w : Verdict) → n < k → k < p .place → Due s k w → ⊥) → AllDue s (p .place) l → AllDue s n (p ∷ l)

@@ -35,8 +35,7 @@ pub fn cutting_stands()
     ensures all { λ _. ⌜ All-due-is-all ⌝ }
     ensures causal { λ _. ⌜ Cutting-is-causal ⌝ }
     ensures local { λ _. ⌜ Cutting-is-local ⌝ }
-{
-}
+{}
 
 // The laws of stuffing, and that what is put is cut into what was put.
 pub fn stuffing_stands()

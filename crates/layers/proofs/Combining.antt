@@ -42,7 +42,7 @@ module _ (s : ℤ → Bool) where
 
   -- one bit more, at the beginning's place
   pub combined-push : (xs : List Bool) (y : Bool)
-    → combined s (before (length xs)) (xs ++ y ∷ []) ≡ combined s (before (length xs)) xs ++ xor y (s (pos 0)) ∷ []
+      → combined s (before (length xs)) (xs ++ y ∷ []) ≡ combined s (before (length xs)) xs ++ xor y (s (pos 0)) ∷ []
   unfolding combined
   combined-push [] y = refl
   combined-push (x ∷ xs) y =
@@ -52,7 +52,7 @@ module _ (s : ℤ → Bool) where
 
 -- sequences that are one another, moved by some places
 combined-same : (s t : ℤ → Bool) (step : ℤ → ℤ) → ((i : ℤ) → sucℤ (step i) ≡ step (sucℤ i)) → ((i : ℤ) → s i ≡ t (step i))
-  → (i : ℤ) (xs : List Bool) → combined s i xs ≡ combined t (step i) xs
+    → (i : ℤ) (xs : List Bool) → combined s i xs ≡ combined t (step i) xs
 unfolding combined
 combined-same s t step over same i [] = refl
 combined-same s t step over same i (x ∷ xs) =
@@ -65,12 +65,12 @@ pub combined-on : (s t : ℤ → Bool) → ((i : ℤ) → s i ≡ t (sucℤ i)) 
 combined-on s t same i xs = combined-same s t sucℤ (λ j. refl) same i xs
 
 pub before-on : (s t : ℤ → Bool) → ((i : ℤ) → s i ≡ t (sucℤ i)) → (n : ℕ) (xs : List Bool)
-  → combined s (before (suc n)) xs ≡ combined t (before n) xs
+    → combined s (before (suc n)) xs ≡ combined t (before n) xs
 before-on s t same n xs = combined-on s t same (before (suc n)) xs ∙ ap (λ j. combined t j xs) (nearer n)
 
 -- some places back
 pub before-back : (d n : ℕ) (w : List Bool) → length w ≡ 15 → (xs : List Bool)
-  → combined (sequence (moved backward d w)) (before n) xs ≡ combined (sequence w) (before (n + d)) xs
+    → combined (sequence (moved backward d w)) (before n) xs ≡ combined (sequence w) (before (n + d)) xs
 before-back zero n w e xs = ap (λ m. combined (sequence w) (before m) xs) (sym (add-zero n))
 before-back (suc d) n w e xs =
     before-back d n (backward w) (length-backward w e) xs

@@ -59,7 +59,7 @@ back r =
 
 -- one given bit more, before those that the register holds
 pub hold-more : (bits : List Bool) (i register b : ℕ) → length bits ≡ 15 → i < 15 → b < 2 → eqb b 1 ≡ getD bits (14 - i) false
-  → low i register ≡ drop (15 - i) bits → low (i + 1) (2 * register + b) ≡ drop (15 - (i + 1)) bits
+    → low i register ≡ drop (15 - i) bits → low (i + 1) (2 * register + b) ≡ drop (15 - (i + 1)) bits
 hold-more bits i register b long few small is held =
     let next : i + 1 ≡ suc i = omega arith in
     let place : 15 - (i + 1) ≡ 14 - i = omega arith in

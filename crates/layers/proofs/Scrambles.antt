@@ -22,14 +22,14 @@ key-bit r = ap (λ n. eqb n 1) (and-mask r 1)
 
 -- the first bit waiting below, combined
 pub first-out : (r r′ : ℕ) (b : Bool) (before after : List Bool) → low 15 r′ ≡ onward (low 15 r) → before ≡ b ∷ after
-  → combined (sequence (low 15 r)) (pos 0) before ≡ xor b (eqb (bitAnd r 1) 1) ∷ combined (sequence (low 15 r′)) (pos 0) after
+    → combined (sequence (low 15 r)) (pos 0) before ≡ xor b (eqb (bitAnd r 1) 1) ∷ combined (sequence (low 15 r′)) (pos 0) after
 unfolding combined
 first-out r r′ b before after on is =
     let s = sequence (low 15 r) in
     ap (combined s (pos 0)) is
     ∙ ap (λ k. xor b k ∷ combined s (pos 1) after) (sym (key-bit r))
     ∙ ap (λ l. xor b (eqb (bitAnd r 1) 1) ∷ l)
-      (sym (ap (λ w. combined (sequence w) (pos 0) after) on ∙ combined-on (sequence (onward (low 15 r))) s (on-shift (low 15 r) (length-low 15 r)) (pos 0) after))
+    (sym (ap (λ w. combined (sequence w) (pos 0) after) on ∙ combined-on (sequence (onward (low 15 r))) s (on-shift (low 15 r) (length-low 15 r)) (pos 0) after))
 
 pub none-out : (s : ℤ → Bool) (i : ℤ) (bits : List Bool) → bits ≡ [] → combined s i bits ≡ []
 unfolding combined
@@ -37,7 +37,7 @@ none-out s i bits is = ap (combined s i) is
 
 -- one bit put below, combined
 pub last-in : (r r′ : ℕ) (b : Bool) (held held′ : List Bool) → low 15 r′ ≡ onward (low 15 r) → held′ ≡ held ++ xor b (eqb (bitAnd r 1) 1) ∷ []
-  → combined (sequence (low 15 r′)) (negℤ (pos (length held′))) held′ ≡ combined (sequence (low 15 r)) (negℤ (pos (length held))) held ++ b ∷ []
+    → combined (sequence (low 15 r′)) (negℤ (pos (length held′))) held′ ≡ combined (sequence (low 15 r)) (negℤ (pos (length held))) held ++ b ∷ []
 last-in r r′ b held held′ on is =
     let s = sequence (low 15 r) in
     let key = eqb (bitAnd r 1) 1 in
@@ -56,8 +56,8 @@ moved-last step (suc n) w = moved-last step n (step w)
 
 -- the first bits held below, with the register moved back by as many places as were cut
 pub cut-in : (r r′ n : ℕ) (held held′ : List Bool) → n ≤ length held → held′ ≡ take n held
-  → low 15 r′ ≡ moved backward (length held - n) (low 15 r)
-  → combined (sequence (low 15 r′)) (negℤ (pos (length held′))) held′ ≡ take n (combined (sequence (low 15 r)) (negℤ (pos (length held))) held)
+    → low 15 r′ ≡ moved backward (length held - n) (low 15 r)
+    → combined (sequence (low 15 r′)) (negℤ (pos (length held′))) held′ ≡ take n (combined (sequence (low 15 r)) (negℤ (pos (length held))) held)
 cut-in r r′ n held held′ few is back =
     let w = low 15 r in
     let d = length held - n in

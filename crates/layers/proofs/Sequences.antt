@@ -110,8 +110,8 @@ less-15 i = sucℤ-+ℤ i (negℤ (pos 15))
 
 -- the rule at a place of the sequence moved on is the rule one place on
 rule-on : (w : List Bool) → length w ≡ 15 → (i : ℤ)
-  → sequence (onward w) i ≡ xor (sequence (onward w) (i -ℤ pos 14)) (sequence (onward w) (i -ℤ pos 15))
-  → sequence w (sucℤ i) ≡ xor (sequence w (sucℤ i -ℤ pos 14)) (sequence w (sucℤ i -ℤ pos 15))
+    → sequence (onward w) i ≡ xor (sequence (onward w) (i -ℤ pos 14)) (sequence (onward w) (i -ℤ pos 15))
+    → sequence w (sucℤ i) ≡ xor (sequence w (sucℤ i -ℤ pos 14)) (sequence w (sucℤ i -ℤ pos 15))
 rule-on w e i r =
     sym (on-shift w e i) ∙ r
     ∙ ap (λ b. xor b (sequence (onward w) (i -ℤ pos 15))) (on-shift w e (i -ℤ pos 14) ∙ ap (sequence w) (sym (less-14 i)))

@@ -23,7 +23,7 @@ length-moved (suc n) w e = length-moved n (onward w) (length-onward w e)
 
 -- some places on, looked at from as many places before
 from-before : (n : ℕ) (w : List Bool) → length w ≡ 15 → (xs : List Bool)
-  → combined (sequence (moved onward n w)) (negℤ (pos n)) xs ≡ combined (sequence w) (pos 0) xs
+    → combined (sequence (moved onward n w)) (negℤ (pos n)) xs ≡ combined (sequence w) (pos 0) xs
 from-before zero w e xs = refl
 from-before (suc n) w e xs =
     ap (λ v. combined (sequence v) (negℤ (pos (suc n))) xs) (sym (moved-last onward n w))
@@ -34,11 +34,10 @@ pub given-back : Source-gives-what-sink-holds
 given-back given below e = from-before (length below) given e below
 
 pub put-undone : Put-is-undone
-put-undone held held′ held″ room room′ room″ b u (Ok tt) put cut =
-    (
-      refl,
-      cut .1 ∙ ap (λ l. lib.ListN.take (length held) l) (put .0) ∙ take-at held (b ∷ []) (length held) refl,
-      omega (arith, cut .2, put .1, ap length (put .0), length-push held b),
-    )
+put-undone held held′ held″ room room′ room″ b u (Ok tt) put cut = (
+  refl,
+  cut .1 ∙ ap (λ l. lib.ListN.take (length held) l) (put .0) ∙ take-at held (b ∷ []) (length held) refl,
+  omega (arith, cut .2, put .1, ap length (put .0), length-push held b),
+)
 put-undone held held′ held″ room room′ room″ b u (Err e) put cut =
     absurd (omega (arith, cut .1, ap length (put .0), length-push held b))

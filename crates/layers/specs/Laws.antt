@@ -27,10 +27,10 @@ Scrambling-is-undone = (s : ℤ → Bool) (i : ℤ) (bits : List Bool) → combi
 -- what a scrambled sink holds that began over nothing, a scrambled source with the same beginning gives from the bits below
 abbrev pub Source-gives-what-sink-holds : Type 0
 Source-gives-what-sink-holds = (given below : List Bool) → length given ≡ 15
-  → combined (sequence (moved onward (length below) given)) (negℤ (pos (length below))) below ≡ combined (sequence given) (pos 0) below
+    → combined (sequence (moved onward (length below) given)) (negℤ (pos (length below))) below ≡ combined (sequence given) (pos 0) below
 
 -- a bit put, and the sink cut back to what it held before: held and room are as before
 abbrev pub Put-is-undone : Type 0
 Put-is-undone = (held held′ held″ : List Bool) (room room′ room″ : ℕ) (b : Bool) (u : Unit {0}) (r : Result (Unit {0}) SinkError)
-  → Put held room b (Ok u) held′ room′ → CutBack held′ room′ (length held) r held″ room″
-  → (r ≡ Ok tt) × (held″ ≡ held) × (room″ ≡ room)
+    → Put held room b (Ok u) held′ room′ → CutBack held′ room′ (length held) r held″ room″
+    → (r ≡ Ok tt) × (held″ ≡ held) × (room″ ≡ room)

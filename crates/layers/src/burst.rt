@@ -57,6 +57,14 @@ impl<S: BitSink> BurstSink<S> {
         let left = n.min(MOST_BURST);
         BurstSink { below, left }
     }
+
+    // Hands back what is below.
+    pub fn into_below(self) -> S
+        ensures { λ r. ⌜ r ≡ self .below ⌝ }
+    {
+        let BurstSink { below, left: _ } = self;
+        below
+    }
 }
 
 pub impl<S: BitSink> BitSink for BurstSink<S> as BurstBitSink {

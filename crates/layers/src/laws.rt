@@ -6,5 +6,4 @@ pub fn layers_stand()
     ensures undone { λ _. ⌜ Scrambling-is-undone ⌝ }
     ensures given_back { λ _. ⌜ Source-gives-what-sink-holds ⌝ }
     ensures put_undone { λ _. ⌜ Put-is-undone ⌝ }
-{
-}
+{}

@@ -15,13 +15,17 @@ use crate::burst::BurstSink;
 use crate::burst::BurstSource;
 use crate::scrambling::ScrambledSink;
 use crate::scrambling::ScrambledSource;
-use bits::packed_sink::PackedSink;
 use bits::packed_sink::PackedBitSink;
+use bits::packed_sink::PackedSink;
 use bits::packed_source::PackedBitSource;
 use bits::packed_source::PackedSource;
 
 // The first n bits of the octets, descrambled; n above 131,071 counts as 131,071.
-pub fn pile_source<'a>(octets: &'a [u8], n: usize, given: &[bool; 15]) -> ScrambledSource<BurstSource<PackedSource<'a>>>
+pub fn pile_source<'a>(
+    octets: &'a [u8],
+    n: usize,
+    given: &[bool; 15],
+) -> ScrambledSource<BurstSource<PackedSource<'a>>>
     ensures { λ r. ⌜ pileWaiting r ≡ combined (sequence (now (given .entry))) (pos 0) (front (window n) (sent (now (octets .entry)))) ⌝ }
 {
     let packed = PackedSource::new(octets, usize::MAX);
@@ -30,7 +34,11 @@ pub fn pile_source<'a>(octets: &'a [u8], n: usize, given: &[bool; 15]) -> Scramb
 }
 
 // Room for the first n bits of the octets, scrambled as they are put.
-pub fn pile_sink<'a>(octets: &'a mut [u8], n: usize, given: &[bool; 15]) -> ScrambledSink<BurstSink<PackedSink<'a>>>
+pub fn pile_sink<'a>(
+    octets: &'a mut [u8],
+    n: usize,
+    given: &[bool; 15],
+) -> ScrambledSink<BurstSink<PackedSink<'a>>>
     ensures held { λ r. ⌜ pileHeld r ≡ [] ⌝ }
     ensures space { λ r. ⌜ pileSpace r ≡ min (window n) (8 * length (now (octets .entry))) ⌝ }
     ensures memory { λ r. ⌜ now (r .below .below .octets) ≡ now (octets .entry) ⌝ }

@@ -58,6 +58,14 @@ impl<S: BitSink> ScrambledSink<S> {
         let register = holding(given);
         ScrambledSink { below, register }
     }
+
+    // Hands back what is below.
+    pub fn into_below(self) -> S
+        ensures { λ r. ⌜ r ≡ self .below ⌝ }
+    {
+        let ScrambledSink { below, register: _ } = self;
+        below
+    }
 }
 
 pub impl<S: BitSink> BitSink for ScrambledSink<S> as ScrambledBitSink {

@@ -9,8 +9,7 @@ loop-copied-again g c =
     let i = c .loop-copied .inv in
     let b = c .in-Some .bit in
     let put = c .in-Ok .ensures tt in
-    let long = length-push (i .0) b in
-    (
+    let long = length-push (i .0) b in (
       i .0 ++ b ∷ [],
       i .1 ∙ ap (λ l. i .0 ++ l) (c .in-Some .ensures tt) ∙ sym (append-assoc (i .0) (b ∷ []) (g .S·BitSource .waiting (c .take .last .self))),
       put .0 ∙ ap (λ l. l ++ b ∷ []) (i .2) ∙ append-assoc (g .K·BitSink .held (c .args .sink .now)) (i .0) (b ∷ []),

@@ -10,4 +10,4 @@ pub returns : need.returns
 returns c =
     c .new .ensures
     ∙ ap (combined (sequence (c .args .given .now)) (pos 0))
-      (c .new-burst .ensures ∙ ap (take (window (c .args .n))) (c .new-packed .ensures) ∙ window-octets (c .args .n) (c .args .octets .now))
+    (c .new-burst .ensures ∙ ap (take (window (c .args .n))) (c .new-packed .ensures) ∙ window-octets (c .args .n) (c .args .octets .now))

@@ -14,6 +14,6 @@ pub returns-else-at-self : need.returns-else-at-self
 returns-else-at-self c =
     let s = c .args .self .now in
     let over : s .at < s .end → s .at / 8 < length (s .octets .now) → ⊥ = λ p q.
-        elim (c .else-at-self .came) [ else-at-self·by·then-at-self·else-at-self-2 w ↦ omega arith | else-at-self·by·else-at-self w ↦ omega arith ] in
+    elim (c .else-at-self .came) [ else-at-self·by·then-at-self·else-at-self-2 w ↦ omega arith | else-at-self·by·else-at-self w ↦ omega arith ] in
     let none = none-left (s .octets .now) (s .at) (s .end) over in
     (none, none)

@@ -23,9 +23,9 @@ returns c =
     record {
       meaning = (
         ap (λ k. map (λ o. eqb o 49) (take k os′)) is
-        ∙ ap (λ l. map (λ o. eqb o 49) (take (s .count + 1) l)) put
-        ∙ written-more os (s .count) b within
-        ∙ ap (λ k. map (λ o. eqb o 49) (take k os) ++ b ∷ []) was,
+            ∙ ap (λ l. map (λ o. eqb o 49) (take (s .count + 1) l)) put
+            ∙ written-more os (s .count) b within
+            ∙ ap (λ k. map (λ o. eqb o 49) (take k os) ++ b ∷ []) was,
         omega arith,
       );
       memory = put ∙ ap (λ k. set os k (textOctet b)) was;

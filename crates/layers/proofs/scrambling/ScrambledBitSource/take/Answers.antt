@@ -8,8 +8,7 @@ use Rattle.layers.proofs.scrambling.ScrambledBitSource.take.Needs as need
 pub returns-in-None : need.returns-in-None
 returns-in-None g c =
     let s = c .args .self .now in
-    let none = c .in-None .ensures tt in
-    (
+    let none = c .in-None .ensures tt in (
       none-out (sequence (low 15 (s .register))) (pos 0) (g .S·BitSource .waiting (s .below)) (none .0),
       none-out (sequence (low 15 (s .register))) (pos 0) (g .S·BitSource .waiting (c .take .last .self)) (none .1),
     )
