@@ -6,7 +6,7 @@ use lib.Chars.{codes}
 use lib.Dec.{ltb}
 use Rattle.std.specs.Joined.{joined}
 use Rattle.std.specs.Written.{decimal}
-use Rattle.receiver.specs.Numbers.{faultNumber}
+use Rattle.cutting.specs.Faults.{faultNumber}
 use Rattle.lines.specs.declared.Line.{Line}
 use Rattle.lines.specs.declared.Line.the-variants.{Refused, Aborted, Frame, Taken}
 use Rattle.lines.specs.declared.LineError.{LineError}

@@ -10,7 +10,7 @@ ghost use Rattle.lines.specs.Drafts.{drafted};
 use crate::draft::Draft;
 use crate::put::put_hex;
 use crate::put::put_text;
-use receiver::Fault;
+use cutting::Fault;
 
 mod draft;
 mod put;

@@ -1,4 +1,4 @@
--- What one call of listening does to the source and to the buffer.
+-- What one call of listening does.
 use mathlib.Core.Path.{_≡_}
 use mathlib.Core.List.{List, [], _++_}
 use mathlib.Core.Bool.{Bool}
@@ -6,20 +6,19 @@ use Prim.Native.Nat.{ℕ, _<_, _≤_}
 use lib.ListN.{length, drop}
 use Rattle.std.specs.declared.option.Option.{Option}
 use Rattle.std.specs.declared.option.Option.the-variants.{Some, None}
+use Rattle.cutting.specs.Cutting.{Bits, Verdict, Due}
+use Rattle.receiver.specs.Answers.{verdictOf}
 use Rattle.receiver.specs.declared.answer.Answer.{Answer}
 use Rattle.receiver.specs.declared.answer.Answer.the-variants.{Aborted, Refused, Frame, Paused, Dry}
 
--- an answer that is a verdict; a frame has 9 to 2,061 octets, so it has room in every buffer that listening accepts
-abbrev pub IsVerdict : Answer → Type 0
-IsVerdict Aborted = Unit {0}
-IsVerdict (Refused f) = Unit {0}
-IsVerdict (Frame n) = (9 ≤ n) × (n ≤ 2061)
-IsVerdict Paused = ⊥
-IsVerdict Dry = ⊥
+-- no verdict falls due in s behind place a, up to place b
+abbrev pub Still : Bits → ℕ → ℕ → Type 0
+Still s a b = (e : ℕ) (v : Verdict) → a < e → e ≤ b → Due s e v → ⊥
 
-abbrev pub VerdictIfAny : Option Answer → Type 0
-VerdictIfAny None = Unit {0}
-VerdictIfAny (Some a) = IsVerdict a
+-- behind the history h the bits t came: the verdict falls due at their end, and none before; or none falls due in them
+abbrev pub Comes : Bits → Bits → Option Verdict → Type 0
+Comes h t None = Still (h ++ t) (length h) (length (h ++ t))
+Comes h t (Some v) = Due (h ++ t) (length (h ++ t)) v × ((e : ℕ) (w : Verdict) → length h < e → e < length (h ++ t) → Due (h ++ t) e w → ⊥)
 
 -- why listening stopped: a verdict needs a bit; paused, the allowance is used; dry, it is not, and no bit waits
 abbrev pub Stops : Answer → ℕ → ℕ → List Bool → Type 0
@@ -37,10 +36,12 @@ Fills (Frame n) old new = (9 ≤ n) × (n ≤ 2061) × (length new ≡ length ol
 Fills Paused old new = new ≡ old
 Fills Dry old new = new ≡ old
 
--- `before` and `after` are the bits that wait; the bits between them were taken, and counted
-pub record Listens (before after : List Bool) (allowance taken : ℕ) (old new : List ℕ) (a : Answer) : Type 0 where
+-- `before` and `after` are the bits that wait, and the bits between were taken and counted; `was` and `is` are the histories that the record
+-- stands for, and for every one of them the answer is what falls due
+pub record Listens (was is : Bits → Type 0) (before after : List Bool) (allowance taken : ℕ) (old new : List ℕ) (a : Answer) : Type 0 where
   pub bits : List Bool
   pub lost : before ≡ bits ++ after
   pub counts : length bits ≡ taken
+  pub told : (h : Bits) → was h → is (h ++ bits) × Comes h bits (verdictOf a new)
   pub stops : Stops a allowance taken after
   pub fills : Fills a old new

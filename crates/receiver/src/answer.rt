@@ -1,30 +1,7 @@
 // What listening answers.
 ghost use mathlib.Core.Path.{_≡_};
-ghost use Rattle.receiver.specs.Numbers.{faultNumber, errorNumber};
-
-// Why a stretch that a flag closed is no frame.
-#[derive(Clone, Copy)]
-pub enum Fault {
-    MissingZero,
-    TooLong,
-    NotOctets,
-    TooShort,
-    WrongSequence,
-}
-
-impl Fault {
-    pub fn number(self) -> u8
-        ensures { λ r. ⌜ r ≡ faultNumber self ⌝ }
-    {
-        match self {
-            Fault::MissingZero => 11,
-            Fault::TooLong => 12,
-            Fault::NotOctets => 13,
-            Fault::TooShort => 14,
-            Fault::WrongSequence => 15,
-        }
-    }
-}
+ghost use Rattle.receiver.specs.Answers.{errorNumber};
+use cutting::Fault;
 
 // A verdict, or none: `Paused` where the allowance is used, `Dry` where no bit waits.
 // A frame's octets stand at the buffer's front, as many as `Frame` says.

@@ -4,7 +4,6 @@ mod record;
 mod store;
 
 pub use answer::Answer;
-pub use answer::Fault;
 pub use answer::Heard;
 pub use answer::ListenError;
 pub use record::Receiver;

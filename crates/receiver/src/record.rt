@@ -1,5 +1,7 @@
 // The receiver's record.
 ghost use Prim.Native.Nat.{_≤_};
+ghost use Rattle.cutting.specs.Cutting.{Bits};
+ghost use Rattle.receiver.specs.Stands.{Stands};
 use crate::store::Store;
 
 pub mod listening;
@@ -21,4 +23,5 @@ pub struct Receiver {
     left_out: bool,
     store: Store,
     ghost few: { ones ≤ 6 },
+    ghost heard: { ∥ ((h : Bits) × Stands state ones «left_out» store h) ∥₁ },
 }

@@ -1,9 +1,9 @@
 // Trace lines, and the buffers that are just long enough or one short.
 #[cfg(test)]
 mod tests {
+    use cutting::Fault;
     use lines::Line;
     use lines::make_line;
-    use receiver::Fault;
     use std::alloc::Global;
     use std::test::*;
 

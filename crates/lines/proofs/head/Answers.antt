@@ -4,7 +4,7 @@ use native.Mathlib.Omega.{arith}
 use lib.Chars.{codes}
 use Rattle.std.specs.Written.{decimal}
 use Rattle.lines.specs.Drafts.{drafted}
-use Rattle.receiver.specs.Numbers.{faultNumber}
+use Rattle.cutting.specs.Faults.{faultNumber}
 use Rattle.lines.specs.Lines.{headText}
 use Rattle.lines.proofs.Decimals.{few-digits, three-digits}
 use Rattle.lines.proofs.head.Needs as need

@@ -2,21 +2,29 @@ ghost use mathlib.Core.Path.{_≡_};
 ghost use lib.Dec.{leb};
 ghost use lib.ListN.{length};
 ghost use Rattle.std.specs.Results.{Cases, isOk};
-ghost use Rattle.receiver.specs.Listening.{Listens, VerdictIfAny};
+ghost use mathlib.Core.Bool.{true, false};
+ghost use mathlib.Core.List.{[], _∷_, _++_};
+ghost use Rattle.cutting.specs.Cutting.{Bits};
+ghost use Rattle.receiver.specs.declared.record.State.the-variants.{Stretch};
+ghost use Rattle.receiver.specs.Stands.{Behind, Inside};
+ghost use Rattle.receiver.specs.Hearing.{HasHeard, Hears, VerdictIfAny, DueNow, verdictIfAny};
+ghost use Rattle.receiver.specs.Listening.{Listens};
 use crate::answer::Answer;
-use crate::answer::Fault;
 use crate::answer::Heard;
 use crate::answer::ListenError;
 use crate::record::Receiver;
 use crate::record::State;
 use crate::store::Store;
 use bits::source::BitSource;
+use cutting::Fault;
 
 // The longest frame, in octets: what every buffer must have room for.
 const MOST_OCTETS: usize = 2_061;
 
 impl Receiver {
-    pub fn new() -> Receiver {
+    pub fn new() -> Receiver
+        ensures { λ r. ⌜ HasHeard r [] ⌝ }
+    {
         Receiver {
             state: State::Idle,
             ones: 0,
@@ -26,7 +34,9 @@ impl Receiver {
     }
 
     // The carrier is lost: the receiver hunts for a whole flag again.
-    pub fn carrier_loss(&mut self) {
+    pub fn carrier_loss(&mut self)
+        ensures { λ _. ⌜ HasHeard (now (self .exit)) [] ⌝ }
+    {
         self.state = State::Idle;
     }
 
@@ -39,7 +49,7 @@ impl Receiver {
     ) -> Result<Heard, ListenError>
         ensures refuses { λ r. ⌜ isOk r ≡ leb 2061 (length (now (buffer .entry))) ⌝ }
         ensures answers { λ r. ⌜ Cases r
-            (λ h. Listens (S·BitSource .waiting (now (source .entry))) (S·BitSource .waiting (now (source .exit))) allowance (h .taken) (now (buffer .entry)) (now (buffer .exit)) (h .answer))
+            (λ h. Listens (HasHeard (now (self .entry))) (HasHeard (now (self .exit))) (S·BitSource .waiting (now (source .entry))) (S·BitSource .waiting (now (source .exit))) allowance (h .taken) (now (buffer .entry)) (now (buffer .exit)) (h .answer))
             (λ _. (now (self .exit) ≡ now (self .entry)) × (now (source .exit) ≡ now (source .entry)) × (now (buffer .exit) ≡ now (buffer .entry))) ⌝ }
     {
         if buffer.len() < MOST_OCTETS {
@@ -74,7 +84,8 @@ impl Receiver {
 
     // One bit more, and the verdict that falls due on it.
     fn hear(&mut self, bit: bool) -> Option<Answer>
-        ensures { λ r. ⌜ VerdictIfAny r ⌝ }
+        ensures verdict { λ r. ⌜ VerdictIfAny r ⌝ }
+        ensures told { λ r. ⌜ ((h : Bits) → HasHeard (now (self .entry)) h → Hears h bit r (now (self .exit))) ⌝ }
     {
         match (self.state, bit) {
             (State::Idle, true) => None,
@@ -105,7 +116,10 @@ impl Receiver {
     }
 
     // A flag is complete, and a stretch begins behind it.
-    fn begin(&mut self) {
+    fn begin(&mut self)
+        ensures opened { λ _. ⌜ ((h : Bits) → Behind 6 h → HasHeard (now (self .exit)) (h ++ false ∷ [])) ⌝ }
+        ensures same { λ _. ⌜ now (self .exit) .store .octets ≡ now (self .entry) .store .octets ⌝ }
+    {
         self.state = State::Stretch;
         self.ones = 0;
         self.left_out = false;
@@ -113,7 +127,9 @@ impl Receiver {
     }
 
     fn one_in_stretch(&mut self) -> Option<Answer>
-        ensures { λ r. ⌜ VerdictIfAny r ⌝ }
+        requires { ⌜ now self .state ≡ Stretch ⌝ }
+        ensures verdict { λ r. ⌜ VerdictIfAny r ⌝ }
+        ensures told { λ r. ⌜ ((h : Bits) → HasHeard (now (self .entry)) h → Hears h true r (now (self .exit))) ⌝ }
     {
         if self.ones == 6 {
             self.state = State::Idle;
@@ -134,7 +150,9 @@ impl Receiver {
     }
 
     fn zero_in_stretch(&mut self) -> Option<Answer>
-        ensures { λ r. ⌜ VerdictIfAny r ⌝ }
+        requires { ⌜ now self .state ≡ Stretch ⌝ }
+        ensures verdict { λ r. ⌜ VerdictIfAny r ⌝ }
+        ensures told { λ r. ⌜ ((h : Bits) → HasHeard (now (self .entry)) h → Hears h false r (now (self .exit))) ⌝ }
     {
         if self.ones == 6 {
             let verdict = self.closed();
@@ -154,7 +172,8 @@ impl Receiver {
 
     // The verdict on the stretch that a zero closes now, behind six ones.
     fn closed(&self) -> Option<Answer>
-        ensures { λ r. ⌜ VerdictIfAny r ⌝ }
+        ensures verdict { λ r. ⌜ VerdictIfAny r ⌝ }
+        ensures told { λ r. ⌜ ((h : Bits) → Inside 6 (now (self .entry) .«left_out») (now (self .entry) .store) h → DueNow (h ++ false ∷ []) (verdictIfAny r (now (self .entry) .store .octets))) ⌝ }
     {
         if self.store.count() <= 6 {
             None

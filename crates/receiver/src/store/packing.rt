@@ -1,16 +1,23 @@
 ghost use mathlib.Core.Path.{_≡_};
-ghost use mathlib.Core.List.{_++_};
-ghost use Prim.Native.Nat.{_+_, _^_, _<_, _≤_};
+ghost use mathlib.Core.List.{[], _∷_, _++_};
+ghost use Prim.Native.Nat.{_+_, _-_, _^_, _<_, _≤_};
 ghost use lib.ListN.{length, drop, take as front};
-ghost use Rattle.receiver.specs.Listening.{IsVerdict};
+ghost use Rattle.bits.specs.Octets.{low};
+ghost use Rattle.cutting.specs.Cutting.{Bits, removed, Applies};
+ghost use Rattle.cutting.specs.declared.Fault.the-variants.{MissingZero};
+ghost use Rattle.receiver.specs.Answers.{verdictOf};
+ghost use Rattle.receiver.specs.Stands.{Holds};
+ghost use Rattle.receiver.specs.Hearing.{IsVerdict, Judges};
 use crate::answer::Answer;
-use crate::answer::Fault;
 use crate::store::MOST_BITS;
 use crate::store::Store;
+use cutting::Fault;
 use fcs::check_sequence;
 
 impl Store {
-    pub fn new() -> Store {
+    pub fn new() -> Store
+        ensures { λ r. ⌜ Holds r [] ⌝ }
+    {
         Store {
             count: 0,
             octet: 0,
@@ -18,7 +25,10 @@ impl Store {
         }
     }
 
-    pub fn clear(&mut self) {
+    pub fn clear(&mut self)
+        ensures empty { λ _. ⌜ Holds (now (self .exit)) [] ⌝ }
+        ensures same { λ _. ⌜ now (self .exit) .octets ≡ now (self .entry) .octets ⌝ }
+    {
         self.count = 0;
         self.octet = 0;
     }
@@ -30,7 +40,9 @@ impl Store {
     }
 
     // One bit more. Past what a frame can have only the count goes on, to an end.
-    pub fn push(&mut self, bit: bool) {
+    pub fn push(&mut self, bit: bool)
+        ensures { λ _. ⌜ ((r : Bits) → Holds (now (self .entry)) r → Holds (now (self .exit)) (r ++ bit ∷ [])) ⌝ }
+    {
         if self.count < MOST_BITS {
             let place = self.count % 8;
             let octet = with_bit(self.octet, place, bit);
@@ -59,7 +71,8 @@ impl Store {
     // The verdict on what is held but for the last six bits, which are the closing flag's.
     pub fn judge(&self) -> Answer
         requires { ⌜ 6 < now self .count ⌝ }
-        ensures { λ r. ⌜ IsVerdict r ⌝ }
+        ensures verdict { λ r. ⌜ IsVerdict r ⌝ }
+        ensures told { λ r. ⌜ ((x held : Bits) → (Applies MissingZero x → ⊥) → Holds (now (self .entry)) held → removed x ≡ front (length held - 6) held → Judges x (verdictOf r (now (self .entry) .octets))) ⌝ }
     {
         let bits = self.count - 6;
         if bits > MOST_BITS {
@@ -83,7 +96,8 @@ impl Store {
 
 fn with_bit(octet: u8, place: usize, bit: bool) -> u8
     requires { ⌜ place < 8 ⌝ ∗ ⌜ octet < 2 ^ place ⌝ }
-    ensures { λ r. ⌜ r < 2 ^ (place + 1) ⌝ }
+    ensures below { λ r. ⌜ r < 2 ^ (place + 1) ⌝ }
+    ensures bits { λ r. ⌜ low (place + 1) r ≡ low place octet ++ bit ∷ [] ⌝ }
 {
     if bit { octet + (1 << place) } else { octet }
 }
