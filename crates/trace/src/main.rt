@@ -4,59 +4,41 @@ use bits::text::TextBitSource;
 use bits::text::TextSource;
 use lines::Line;
 use lines::make_line;
-use receiver::Answer;
+use path::dry::Event;
+use path::dry::hear_all;
 use receiver::Receiver;
+use std::alloc::Global;
 use std::error::AnyError;
 use std::io::BufWriter;
 use std::io::Read;
 use std::io::Write;
 
-// One receiver through all pieces of the input, with room for a frame and for its line.
+// One receiver through all pieces of the input, with room for the longest line.
 #[derive(Drop)]
 struct Tracer {
     receiver: Receiver,
     ordinal: u64,
     taken: u64,
-    frame: [u8; 2061],
     line: [u8; 4200],
 }
 
 impl Tracer {
     fn new() -> Tracer {
-        Tracer {
-            receiver: Receiver::new(),
-            ordinal: 0,
-            taken: 0,
-            frame: [0; 2061],
-            line: [0; 4200],
-        }
+        Tracer { receiver: Receiver::new(), ordinal: 0, taken: 0, line: [0; 4200] }
     }
 
-    // Listens until the piece is dry.
-    fn hear<W: Write>(&mut self, piece: &[u8], output: &mut W) -> Result<(), AnyError> {
+    // Listens until the piece is dry, and writes the line of every verdict.
+    fn hear<W: Write>(&mut self, heap: Global, piece: &[u8], output: &mut W) -> Result<(), AnyError> {
         let mut source = TextSource::new(piece);
-        loop {
-            match self.receiver.listen(&mut source, u32::MAX, &mut self.frame) {
-                Err(_) => return Err("no room for a frame".into()),
-                Ok(heard) => {
-                    self.taken = self.taken.saturating_add(heard.taken as u64);
-                    if let Answer::Dry = heard.answer {
-                        return Ok(());
-                    }
-                    self.report(heard.answer, output)?;
+        match hear_all(heap, &mut self.receiver, &mut source) {
+            Err(_) => Err("out of memory".into()),
+            Ok(heard) => {
+                for event in heard.events.iter() {
+                    self.ordinal = self.ordinal.saturating_add(1);
+                    put(event_line(self.ordinal, self.taken, event), &mut self.line, output)?;
                 }
-            }
-        }
-    }
-
-    // The line of a verdict; a pause has none.
-    fn report<W: Write>(&mut self, answer: Answer, output: &mut W) -> Result<(), AnyError> {
-        let ordinal = self.ordinal.saturating_add(1);
-        match verdict_line(ordinal, self.taken, answer, &self.frame) {
-            None => Ok(()),
-            Some(line) => {
-                self.ordinal = ordinal;
-                put(line, &mut self.line, output)
+                self.taken = self.taken.saturating_add(heard.taken);
+                Ok(())
             }
         }
     }
@@ -66,24 +48,12 @@ impl Tracer {
     }
 }
 
-fn verdict_line(ordinal: u64, taken: u64, answer: Answer, frame: &[u8]) -> Option<Line<'_>> {
-    match answer {
-        Answer::Aborted => Some(Line::Aborted { ordinal, taken }),
-        Answer::Refused(fault) => Some(Line::Refused {
-            ordinal,
-            taken,
-            fault,
-        }),
-        Answer::Frame(n) => {
-            let octets = frame.get(0..n)?;
-            Some(Line::Frame {
-                ordinal,
-                taken,
-                octets,
-            })
-        }
-        Answer::Paused => None,
-        Answer::Dry => None,
+// The line of a verdict; `before` bits were taken before its piece.
+fn event_line(ordinal: u64, before: u64, event: &Event) -> Line<'_> {
+    match event {
+        Event::Aborted(place) => Line::Aborted { ordinal, taken: before.saturating_add(*place) },
+        Event::Refused(place, fault) => Line::Refused { ordinal, taken: before.saturating_add(*place), fault: *fault },
+        Event::Frame(place, octets) => Line::Frame { ordinal, taken: before.saturating_add(*place), octets: octets.as_slice() },
     }
 }
 
@@ -111,7 +81,7 @@ fn trace(rt: &LibcRuntime) -> Result<(), AnyError> {
         if n == 0 {
             break;
         }
-        tracer.hear(&piece[0..n], &mut output)?;
+        tracer.hear(rt.alloc(), &piece[0..n], &mut output)?;
         output.flush()?;
     }
     tracer.end(&mut output)?;

@@ -1,0 +1,3 @@
+pub mod Hearings
+pub mod Noting
+pub mod Until

@@ -1,0 +1,2 @@
+// The promises over whole runs of a receiver, on calls that perform them.
+pub mod dry;
