@@ -1,3 +1,6 @@
+pub mod Behind
+pub mod Cuts
 pub mod Hearings
+pub mod Joins
 pub mod Noting
-pub mod Until
+pub mod Turns

@@ -1,2 +1,3 @@
-pub mod Runs
 pub mod Dry
+pub mod Replay
+pub mod Runs

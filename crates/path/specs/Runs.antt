@@ -47,14 +47,14 @@ frameOf Dry buffer = []
 pub data Run (start : Bits) : Receiver → Bits → List Leg → Leg → List Turn → Type 0 where
   new : {r : Receiver} → HasHeard r [] → Run start r start [] none []
   refuses : {r : Receiver} {w : Bits} {legs : List Leg} {leg : Leg} {turns : List Turn} (allowance : ℕ) (buffer : List ℕ)
-    → length buffer < 2061 → Run start r w legs leg turns → Run start r w legs leg (turns ++ refused allowance (length buffer) ∷ [])
+      → length buffer < 2061 → Run start r w legs leg turns → Run start r w legs leg (turns ++ refused allowance (length buffer) ∷ [])
   listens : {r r′ : Receiver} {before after : Bits} {legs : List Leg} {leg : Leg} {turns : List Turn} (allowance taken : ℕ) (old new : List ℕ) (a : Answer)
-    → 2061 ≤ length old → Run start r before legs leg turns → (l : Listens (HasHeard r) (HasHeard r′) before after allowance taken old new a)
-    → Run start r′ after legs
+      → 2061 ≤ length old → Run start r before legs leg turns → (l : Listens (HasHeard r) (HasHeard r′) before after allowance taken old new a)
+      → Run start r′ after legs
       (record { bits = leg .bits ++ l .bits; verdicts = leg .verdicts ++ noted (verdictOf a new) (length (leg .bits ++ l .bits)) })
       (turns ++ heard allowance (length old) taken a (frameOf a new) ∷ [])
   loses : {r r′ : Receiver} {w : Bits} {legs : List Leg} {leg : Leg} {turns : List Turn} → Run start r w legs leg turns → HasHeard r′ []
-    → Run start r′ w (legs ++ leg ∷ []) none (turns ++ lost ∷ [])
+      → Run start r′ w (legs ++ leg ∷ []) none (turns ++ lost ∷ [])
 
 -- a placed verdict, n places later
 abbrev pub later : ℕ → Placed → Placed
@@ -71,9 +71,9 @@ SameBehind n verdicts own = (before : List Placed) × (verdicts ≡ before ++ ma
 pub record Told (leg : Leg) : Type 0 where
   pub all : AllDue (leg .bits) 0 (leg .verdicts)
   pub behind : (pre rest : Bits) (own : List Placed) → leg .bits ≡ pre ++ (flag ++ rest) → AllDue (flag ++ rest) 0 own
-    → SameBehind (length pre) (leg .verdicts) own
+      → SameBehind (length pre) (leg .verdicts) own
   pub again : (pre rest : Bits) (r : Receiver) (own : Leg) (turns : List Turn) → leg .bits ≡ pre ++ (flag ++ rest)
-    → Run (flag ++ rest) r [] [] own turns → SameBehind (length pre) (leg .verdicts) (own .verdicts)
+      → Run (flag ++ rest) r [] [] own turns → SameBehind (length pre) (leg .verdicts) (own .verdicts)
 
 -- what every run comes to: the bits taken are the first that waited, each leg's behind the one before, and each leg comes to the above
 pub record Result (start w : Bits) (legs : List Leg) (leg : Leg) : Type 0 where
@@ -83,4 +83,4 @@ pub record Result (start w : Bits) (legs : List Leg) (leg : Leg) : Type 0 where
 
 abbrev pub Runs-are-cut : Type 0
 Runs-are-cut = (start : Bits) (r : Receiver) (w : Bits) (legs : List Leg) (leg : Leg) (turns : List Turn)
-  → Run start r w legs leg turns → HasHeard r (leg .bits) × Result start w legs leg
+    → Run start r w legs leg turns → HasHeard r (leg .bits) × Result start w legs leg

@@ -39,7 +39,11 @@ pub enum HearError {
 }
 
 // Listens until no bit waits. Where memory ends before that, some first bits are taken.
-pub fn hear_all<S: BitSource>(heap: Global, receiver: &mut Receiver, source: &mut S) -> Result<AllHeard, HearError>
+pub fn hear_all<S: BitSource>(
+    heap: Global,
+    receiver: &mut Receiver,
+    source: &mut S,
+) -> Result<AllHeard, HearError>
     ensures { λ r. ⌜ Cases r
         (λ a. HearsAll (HasHeard (now (receiver .entry))) (HasHeard (now (receiver .exit))) (S·BitSource .waiting (now (source .entry))) (S·BitSource .waiting (now (source .exit))) (a .taken) (vec-items (a .events)))
         (λ _. HearsSome (HasHeard (now (receiver .entry))) (HasHeard (now (receiver .exit))) (S·BitSource .waiting (now (source .entry))) (S·BitSource .waiting (now (source .exit)))) ⌝ }
@@ -69,7 +73,13 @@ pub fn hear_all<S: BitSource>(heap: Global, receiver: &mut Receiver, source: &mu
 }
 
 // The event of an answer, if it is a verdict, behind those so far.
-fn note(heap: Global, events: &mut Vec<Event>, taken: u64, answer: Answer, buffer: &[u8]) -> Result<(), AllocError>
+fn note(
+    heap: Global,
+    events: &mut Vec<Event>,
+    taken: u64,
+    answer: Answer,
+    buffer: &[u8],
+) -> Result<(), AllocError>
     requires { ⌜ FitsIn answer (length (now buffer)) ⌝ }
     ensures { λ r. ⌜ made r (λ _. map placed (vec-items (now (events .exit))) ≡ map placed (vec-items (now (events .entry))) ++ noted (verdictOf answer (now (buffer .entry))) taken) ⌝ }
 {

@@ -24,18 +24,32 @@ struct Tracer {
 
 impl Tracer {
     fn new() -> Tracer {
-        Tracer { receiver: Receiver::new(), ordinal: 0, taken: 0, line: [0; 4200] }
+        Tracer {
+            receiver: Receiver::new(),
+            ordinal: 0,
+            taken: 0,
+            line: [0; 4200],
+        }
     }
 
     // Listens until the piece is dry, and writes the line of every verdict.
-    fn hear<W: Write>(&mut self, heap: Global, piece: &[u8], output: &mut W) -> Result<(), AnyError> {
+    fn hear<W: Write>(
+        &mut self,
+        heap: Global,
+        piece: &[u8],
+        output: &mut W,
+    ) -> Result<(), AnyError> {
         let mut source = TextSource::new(piece);
         match hear_all(heap, &mut self.receiver, &mut source) {
             Err(_) => Err("out of memory".into()),
             Ok(heard) => {
                 for event in heard.events.iter() {
                     self.ordinal = self.ordinal.saturating_add(1);
-                    put(event_line(self.ordinal, self.taken, event), &mut self.line, output)?;
+                    put(
+                        event_line(self.ordinal, self.taken, event),
+                        &mut self.line,
+                        output,
+                    )?;
                 }
                 self.taken = self.taken.saturating_add(heard.taken);
                 Ok(())
@@ -51,9 +65,20 @@ impl Tracer {
 // The line of a verdict; `before` bits were taken before its piece.
 fn event_line(ordinal: u64, before: u64, event: &Event) -> Line<'_> {
     match event {
-        Event::Aborted(place) => Line::Aborted { ordinal, taken: before.saturating_add(*place) },
-        Event::Refused(place, fault) => Line::Refused { ordinal, taken: before.saturating_add(*place), fault: *fault },
-        Event::Frame(place, octets) => Line::Frame { ordinal, taken: before.saturating_add(*place), octets: octets.as_slice() },
+        Event::Aborted(place) => Line::Aborted {
+            ordinal,
+            taken: before.saturating_add(*place),
+        },
+        Event::Refused(place, fault) => Line::Refused {
+            ordinal,
+            taken: before.saturating_add(*place),
+            fault: *fault,
+        },
+        Event::Frame(place, octets) => Line::Frame {
+            ordinal,
+            taken: before.saturating_add(*place),
+            octets: octets.as_slice(),
+        },
     }
 }
 

@@ -12,17 +12,31 @@ mod tests {
     use std::test::*;
 
     // Verdicts as numbers, one after the other: a refusal's own, 0 aborted, 100 and its octets for a frame; and the place of each.
-    fn heard(heap: Global, receiver: &mut Receiver, text: &[u8], before: u64, told: &mut Vec<(u64, usize)>) -> Result<(), Fail> {
+    fn heard(
+        heap: Global,
+        receiver: &mut Receiver,
+        text: &[u8],
+        before: u64,
+        told: &mut Vec<(u64, usize)>,
+    ) -> Result<(), Fail> {
         let mut source = TextSource::new(text);
         match hear_all(heap, receiver, &mut source) {
             Err(_) => Err(Fail::new("out of memory")),
             Ok(all) => {
                 for event in all.events.iter() {
-                    told.push(match event {
-                        Event::Aborted(place) => (before.saturating_add(*place), 0),
-                        Event::Refused(place, fault) => (before.saturating_add(*place), fault.number() as usize),
-                        Event::Frame(place, octets) => (before.saturating_add(*place), octets.len().saturating_add(100)),
-                    })?;
+                    told.push(
+                        match event {
+                            Event::Aborted(place) => (before.saturating_add(*place), 0),
+                            Event::Refused(place, fault) => (
+                                before.saturating_add(*place),
+                                fault.number() as usize,
+                            ),
+                            Event::Frame(place, octets) => (
+                                before.saturating_add(*place),
+                                octets.len().saturating_add(100),
+                            ),
+                        },
+                    )?;
                 }
                 Ok(())
             }

@@ -37,7 +37,7 @@ impl Receiver {
     pub fn carrier_loss(&mut self)
         ensures { λ _. ⌜ HasHeard (now (self .exit)) [] ⌝ }
     {
-        self.state = State::Idle;
+        self.state = State::Idle; // the next flag begins the store anew
     }
 
     // Takes bits until a verdict falls due, the allowance is used or no bit waits.

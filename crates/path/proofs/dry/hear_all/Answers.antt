@@ -10,12 +10,11 @@ use Rattle.path.proofs.Hearings.{Hearing, hearing-new, hearing-more, hearing-s
 use Rattle.path.proofs.dry.hear_all.Needs as need
 
 pub loop-events-holds : need.loop-events-holds
-loop-events-holds g c =
-    (
-      refl,
-      subst (λ l. Hearing (HasHeard (c .args .receiver .now)) (HasHeard (c .args .receiver .now)) (g .S·BitSource .waiting (c .args .source .now)) (g .S·BitSource .waiting (c .args .source .now)) 0 (map placed l))
+loop-events-holds g c = (
+  refl,
+  subst (λ l. Hearing (HasHeard (c .args .receiver .now)) (HasHeard (c .args .receiver .now)) (g .S·BitSource .waiting (c .args .source .now)) (g .S·BitSource .waiting (c .args .source .now)) 0 (map placed l))
       (sym (c .new-events .ensures .items)) (hearing-new (HasHeard (c .args .receiver .now)) (g .S·BitSource .waiting (c .args .source .now))),
-    )
+)
 
 pub returns-in-None : need.returns-in-None
 returns-in-None g c = hearing-some (hearing-more _ _ _ _ _ _ _ _ _ _ _ _ _ _ _ (c .loop-events .inv .1) (c .in-Ok .ensures tt .answers) refl refl)
@@ -34,8 +33,7 @@ pub loop-events-less : need.loop-events-less
 loop-events-less g c = fewer-wait (c .in-Ok .ensures tt .answers) (c .in-rest .not-Dry) (omega arith)
 
 pub loop-events-again : need.loop-events-again
-loop-events-again g c =
-    (
-      c .listen .kept .buffer ∙ c .loop-events .inv .0,
-      hearing-more _ _ _ _ _ _ _ _ _ _ _ _ _ _ _ (c .loop-events .inv .1) (c .in-Ok .ensures tt .answers) (c .in-Some .ensures tt .1) (c .in-Ok-note .ensures tt),
-    )
+loop-events-again g c = (
+  c .listen .kept .buffer ∙ c .loop-events .inv .0,
+  hearing-more _ _ _ _ _ _ _ _ _ _ _ _ _ _ _ (c .loop-events .inv .1) (c .in-Ok .ensures tt .answers) (c .in-Some .ensures tt .1) (c .in-Ok-note .ensures tt),
+)

@@ -34,7 +34,7 @@ returns-in-Continue-push-3 c =
     let e = Frame (c .args .taken) (c .in-Continue-octets .octets) in
     let z : n - 0 ≡ n = omega arith in
     let octets : take n buffer ≡ vec-items (c .in-Continue-octets .octets) =
-        ap (λ k. take k buffer) (sym z) ∙ sym (c .in-Continue-octets .ensures tt .exact (λ x y k. search needs)) in
+    ap (λ k. take k buffer) (sym z) ∙ sym (c .in-Continue-octets .ensures tt .exact (λ x y k. search needs)) in
     event-more (vec-items (c .args .events .now)) (vec-items (c .push-in-Frame .last .self)) e (verdictOf (c .args .answer) buffer) (c .args .taken)
     (c .in-Continue-push-3 .ensures tt .items)
     (ap (λ a. noted (verdictOf a buffer) (c .args .taken)) (c .in-Frame .is) ∙ ap (λ l. noted (Some (frame l)) (c .args .taken)) octets)
