@@ -4,5 +4,6 @@ mod fcs_cases;
 mod layer_cases;
 mod line_cases;
 mod listening_cases;
+mod replay_cases;
 mod sink_cases;
 mod text_cases;
