@@ -1,11 +1,7 @@
 // The lines of the trace program, made in a lent buffer.
 ghost use mathlib.Core.Path.{_≡_};
-ghost use lib.Dec.{leb};
-ghost use lib.ListN.{length};
-ghost use Rattle.std.specs.Results.{Cases, isOk};
 ghost use Prim.Native.Nat.{_≤_};
-ghost use Rattle.bits.specs.Buffers.{over};
-ghost use Rattle.lines.specs.Lines.{lineText, headText, stamp, frameOctets, errorNumber};
+ghost use Rattle.lines.specs.Lines.{Made, lineText, headText, stamp, frameOctets, errorNumber};
 ghost use Rattle.lines.specs.Drafts.{drafted};
 use crate::draft::Draft;
 use crate::put::put_hex;
@@ -55,10 +51,7 @@ impl LineError {
 
 // Makes one line at the buffer's front and answers its length.
 pub fn make_line(line: Line<'_>, buffer: &mut [u8]) -> Result<usize, LineError>
-    ensures refuses { λ r. ⌜ isOk r ≡ leb (length (lineText (line .entry))) (length (now (buffer .entry))) ⌝ }
-    ensures makes { λ r. ⌜ Cases r
-        (λ n. (n ≡ length (lineText (line .entry))) × (now (buffer .exit) ≡ over (lineText (line .entry)) (now (buffer .entry))))
-        (λ _. now (buffer .exit) ≡ now (buffer .entry)) ⌝ }
+    ensures { λ r. ⌜ Made (lineText (line .entry)) (now (buffer .entry)) (now (buffer .exit)) r ⌝ }
 {
     let draft = head(&line);
     let octets = octets_of(line);

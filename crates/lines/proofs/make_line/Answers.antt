@@ -3,7 +3,6 @@ use mathlib.Core.List.{_++_}
 use Prim.Native.Nat.{_-_, _<_}
 use native.Mathlib.Omega.{arith}
 use borrow.Author.Needs.{needs}
-use borrow.Author.Tests.{lt-false, le-true}
 use lib.ListN.{length, take}
 use Rattle.bits.specs.Buffers.{over}
 use Rattle.std.specs.Joined.{joined}
@@ -24,7 +23,7 @@ returns-then-room-draft c =
     let whole = length-line (headText line) (frameOctets line) in
     let short : length (c .args .buffer .now) < length (lineText line) =
     elim (c .then-room-draft .came) [ then-room-draft·by·then-room-draft w ↦ omega arith | then-room-draft·by·else-room-draft·then-room-draft-2 w ↦ omega arith ] in
-    record { refuses = lt-false (length (lineText line)) (length (c .args .buffer .now)) short; makes = refl }
+    (short, refl)
 
 pub returns : need.returns
 returns c =
@@ -42,10 +41,8 @@ returns c =
     let pairs : c .put-hex-end .last .buffer ≡ over (headText line ++ joined hexPair (frameOctets line)) old =
     c .put-hex-end .ensures .after (headText line) old head (sym (c .put-text .kept .buffer)) text
     ∙ ap (λ l. over (headText line ++ joined hexPair l) old) (c .octets-of-octets .ensures) in
-    record {
-      refuses = le-true (length (lineText line)) (length old) (omega arith);
-      makes = (
-        omega (arith, c .put-hex-end .ensures .end),
-        ended (headText line) (frameOctets line) old (c .put-hex-end .last .buffer) (c .put-hex-end .result) (omega (arith, c .put-hex-end .ensures .end)) (omega (arith, c .put-hex-end .ensures .end)) pairs,
-      );
-    }
+    (
+      omega arith,
+      omega (arith, c .put-hex-end .ensures .end),
+      ended (headText line) (frameOctets line) old (c .put-hex-end .last .buffer) (c .put-hex-end .result) (omega (arith, c .put-hex-end .ensures .end)) (omega (arith, c .put-hex-end .ensures .end)) pairs,
+    )
