@@ -1,3 +1,4 @@
+pub mod Ahead
 pub mod Combining
 pub mod Registers
 pub mod Scrambles

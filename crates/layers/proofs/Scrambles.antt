@@ -1,35 +1,24 @@
 -- One bit through a scrambling layer, and a cut back.
 use mathlib.Core.Path.{_≡_, refl, sym, ap, _∙_}
-use mathlib.Core.Bool.{Bool, false, xor}
+use mathlib.Core.Bool.{Bool, xor}
 use mathlib.Core.List.{List, [], _∷_, _++_}
 use Prim.Native.Nat.{ℕ, zero, suc, _+_, _-_, _≤_}
 use native.Mathlib.Omega.{arith}
 use lib.Bits.{bitAnd, and-mask}
 use lib.Dec.{eqb}
-use lib.IntN.{ℤ, pos, sucℤ, negℤ}
-use lib.ListN.{length, take, getD}
+use lib.IntN.{ℤ, pos, negℤ}
+use lib.ListN.{length, take}
 use Rattle.std.proofs.shelf.Lists.{length-push, length-take-le}
 use Rattle.bits.specs.Octets.{low}
 use Rattle.bits.proofs.Sent.{length-low}
 use Rattle.layers.specs.Sequence.{onward, backward, moved, sequence, combined}
 use Rattle.layers.proofs.Sequences.{xor-twice, on-shift}
-use Rattle.layers.proofs.Combining.{combined-on, combined-push, combined-take, before-on, before-back}
+use Rattle.layers.proofs.Combining.{combined-push, combined-take, before-on, before-back}
 
 -- the register's lowest bit is the sequence's bit at its place
 key-bit : (r : ℕ) → eqb (bitAnd r 1) 1 ≡ sequence (low 15 r) (pos 0)
 unfolding sequence low
 key-bit r = ap (λ n. eqb n 1) (and-mask r 1)
-
--- the first bit waiting below, combined
-pub first-out : (r r′ : ℕ) (b : Bool) (before after : List Bool) → low 15 r′ ≡ onward (low 15 r) → before ≡ b ∷ after
-    → combined (sequence (low 15 r)) (pos 0) before ≡ xor b (eqb (bitAnd r 1) 1) ∷ combined (sequence (low 15 r′)) (pos 0) after
-unfolding combined
-first-out r r′ b before after on is =
-    let s = sequence (low 15 r) in
-    ap (combined s (pos 0)) is
-    ∙ ap (λ k. xor b k ∷ combined s (pos 1) after) (sym (key-bit r))
-    ∙ ap (λ l. xor b (eqb (bitAnd r 1) 1) ∷ l)
-    (sym (ap (λ w. combined (sequence w) (pos 0) after) on ∙ combined-on (sequence (onward (low 15 r))) s (on-shift (low 15 r) (length-low 15 r)) (pos 0) after))
 
 pub none-out : (s : ℤ → Bool) (i : ℤ) (bits : List Bool) → bits ≡ [] → combined s i bits ≡ []
 unfolding combined

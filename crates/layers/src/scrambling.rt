@@ -4,6 +4,7 @@ ghost use lib.IntN.{pos, negℤ};
 ghost use lib.ListN.{length};
 ghost use Rattle.layers.specs.Sequence.{sequence, combined};
 ghost use Rattle.layers.specs.Scrambling.{scrambledWaiting, scrambledHeld, scrambledSpace};
+use crate::register::fourteen_more;
 use crate::register::holding;
 use crate::register::moved_back;
 use crate::register::moved_on;
@@ -14,7 +15,9 @@ use bits::source::BitSource;
 #[derive(Drop)]
 pub struct ScrambledSource<S> {
     below: S,
-    register: u16,
+    // bits of the sequence: the next `ahead` of them, and then fifteen more
+    queue: u32,
+    ahead: u32,
 }
 
 impl<S: BitSource> ScrambledSource<S> {
@@ -22,8 +25,12 @@ impl<S: BitSource> ScrambledSource<S> {
     pub fn new(below: S, given: &[bool; 15]) -> ScrambledSource<S>
         ensures { λ r. ⌜ scrambledWaiting (S·BitSource .waiting) r ≡ combined (sequence (now (given .entry))) (pos 0) (S·BitSource .waiting below) ⌝ }
     {
-        let register = holding(given);
-        ScrambledSource { below, register }
+        let queue = holding(given) as u32;
+        ScrambledSource {
+            below,
+            queue,
+            ahead: 0,
+        }
     }
 }
 
@@ -34,8 +41,13 @@ pub impl<S: BitSource> BitSource for ScrambledSource<S> as ScrambledBitSource {
         match self.below.take() {
             None => None,
             Some(bit) => {
-                let key = self.register & 1 == 1;
-                self.register = moved_on(self.register);
+                if self.ahead == 0 {
+                    self.queue = fourteen_more(self.queue);
+                    self.ahead = 14;
+                }
+                let key = self.queue & 1 == 1;
+                self.queue >>= 1;
+                self.ahead -= 1;
                 Some(bit ^ key)
             }
         }
