@@ -40,8 +40,7 @@ returns c =
     c .put-text .ensures ∙ ap (λ n. over (take n (draft .text)) old) z ∙ ap (λ l. over l old) (c .head-draft .ensures .text) in
     let pairs : c .put-hex-end .last .buffer ≡ over (headText line ++ joined hexPair (frameOctets line)) old =
     c .put-hex-end .ensures .after (headText line) old head (sym (c .put-text .kept .buffer)) text
-    ∙ ap (λ l. over (headText line ++ joined hexPair l) old) (c .octets-of-octets .ensures) in
-    (
+    ∙ ap (λ l. over (headText line ++ joined hexPair l) old) (c .octets-of-octets .ensures) in (
       omega arith,
       omega (arith, c .put-hex-end .ensures .end),
       ended (headText line) (frameOctets line) old (c .put-hex-end .last .buffer) (c .put-hex-end .result) (omega (arith, c .put-hex-end .ensures .end)) (omega (arith, c .put-hex-end .ensures .end)) pairs,
