@@ -1,4 +1,6 @@
 // Bits by their order alone: the first sent is the first taken.
+#![tactic(auto)]
+
 pub mod packed_sink;
 pub mod packed_source;
 pub mod sink;

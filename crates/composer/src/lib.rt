@@ -1,4 +1,6 @@
 // Composing an exchange field from items whose values lie in one buffer.
+#![tactic(auto)]
+
 ghost use Rattle.std.specs.Prelude.{◌≡◌, ◌+◌, ◌<◌, ◌≤◌};
 ghost use Rattle.composer.specs.Composing.{compose_number, Composed};
 ghost use Rattle.composer.specs.Checking.{Checked, ItemChecked};

@@ -1,2 +1,4 @@
 // Executed cases of composing.
+#![tactic(auto)]
+
 mod composing_cases;

@@ -1,4 +1,6 @@
 // Cutting: the definitions of flags, breaks, stretches, removal and verdicts, and their laws.
+#![tactic(auto)]
+
 ghost use Rattle.std.specs.Prelude.{◌≡◌};
 ghost use Rattle.cutting.specs.Faults.{fault_number};
 ghost use Rattle.cutting.specs.Laws.{DueIsOne, AllDueIsOne, AllDueIsAll, CuttingIsCausal, CuttingIsLocal};

@@ -1,4 +1,6 @@
 // The faults of what is read: a parameter fault stands whole inside an exchange fault, and that inside a frame fault.
+#![tactic(auto)]
+
 ghost use Rattle.std.specs.Prelude.{◌≡◌};
 ghost use Rattle.faults.specs.Faults.{parameter_number, parameter_place, exchange_number, exchange_place, frame_number, frame_place, ParameterInside, ExchangeInside};
 

@@ -1,4 +1,6 @@
 // The frame check sequence: a register that moves by whole octets.
+#![tactic(auto)]
+
 ghost use Rattle.std.specs.Prelude.{◌≡◌, T, bit_xor};
 ghost use Rattle.bits.specs.Octets.{low};
 ghost use Rattle.fcs.specs.Sequence.{after, sequence};

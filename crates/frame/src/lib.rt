@@ -1,4 +1,6 @@
 // The frame format: addresses, control field, opening.
+#![tactic(auto)]
+
 ghost use Rattle.frame.specs.Laws.{LayoutIsOne, FaultIsOne, LayoutHasNoFault, LaidOutIsOpened};
 
 pub use address::{Address, AddressError, Addressed, Kind};

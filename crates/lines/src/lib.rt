@@ -1,4 +1,6 @@
 // The lines of the trace program, made in a lent buffer.
+#![tactic(auto)]
+
 ghost use Rattle.std.specs.Prelude.{◌≡◌, ◌≤◌};
 ghost use Rattle.lines.specs.Lines.{Made, line_text, head_text, stamp, frame_octets, error_number};
 ghost use Rattle.lines.specs.Drafts.{drafted};

@@ -1,4 +1,6 @@
 // What is owed is paid: one command is declined, another is replied to before a further frame is written.
+#![tactic(auto)]
+
 use bits::packed_sink::PackedSink;
 use frame::Frame;
 use reply::{Checked, Debt, check, decline, reply};

@@ -1,4 +1,6 @@
 // The promises over whole runs of a receiver, on calls that perform them.
+#![tactic(auto)]
+
 pub mod carrying;
 pub mod dry;
 pub mod ends;

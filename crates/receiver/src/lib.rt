@@ -1,4 +1,6 @@
 // The receiver: frames cut out of bits.
+#![tactic(auto)]
+
 mod answer;
 mod record;
 mod store;

@@ -1,4 +1,6 @@
 // Parameter values with a layout, as typed records.
+#![tactic(auto)]
+
 ghost use Rattle.records.specs.Laws.{TuningIsOne, LocationIsOne, StationsAreListed, FrequenciesAreListed};
 
 pub use record::{Record, read_value};

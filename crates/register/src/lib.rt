@@ -1,4 +1,6 @@
 // The register of parameters: which lengths a value may have, for each identifier in either group.
+#![tactic(auto)]
+
 ghost use Rattle.std.specs.Prelude.{◌≡◌, ◌<◌};
 ghost use Rattle.register.specs.Groups.{group_octet, GroupRead};
 ghost use Rattle.register.specs.Register.{row, Allows, Multiple, Told, Rows};

@@ -1,4 +1,6 @@
 // Twelve worked values of the definitions that the contracts use.
+#![tactic(auto)]
+
 ghost use Rattle.table.specs.Table.{Stuffing, AircraftAddress, BroadcastAddress, GroundAddress, InfoControl, XidControl, TuningValue, LocationValue, CheckSequence, ZeroIsMissing, SharedZero, Traced};
 
 // The table: the contract is the theorem, and the function does nothing.

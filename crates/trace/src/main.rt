@@ -1,4 +1,6 @@
 // Text bits in on standard input, a line for every verdict out.
+#![tactic(auto)]
+
 use anyhow::anyhow;
 use bits::text::{MOST_TEXT, TextSource};
 use lines::{Line, make_line};

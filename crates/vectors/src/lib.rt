@@ -1,4 +1,6 @@
 // Executed cases, many to a test: what the contracts promise, seen to happen.
+#![tactic(auto)]
+
 mod carry_cases;
 mod cutting_cases;
 mod fcs_cases;

@@ -1,4 +1,6 @@
 // The whole path, step by step: compose, write through the pile, listen, check, read, reply.
+#![tactic(auto)]
+
 mod receiving;
 mod row;
 mod sending;

@@ -1,4 +1,6 @@
 // Executed cases of writing, heard again.
+#![tactic(auto)]
+
 mod generated_cases;
 mod layered_cases;
 mod list_cases;

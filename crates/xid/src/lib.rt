@@ -1,4 +1,6 @@
 // Exchange fields: a reader that moves through a field.
+#![tactic(auto)]
+
 ghost use Rattle.xid.specs.Laws.{ReadingIsOne};
 
 pub use information::parameters_of;

@@ -14,7 +14,7 @@ returns-then-room-draft c =
     let held : length c.head-draft.result.text ≡ 64 = search rules in
     let head : length (head_text line) ≡ c.head-draft.result.len =
     sym (ap length c.head-draft.ensures.text) ∙ length-take-le c.head-draft.result.len c.head-draft.result.text (omega (arith, c.head-draft.ensures.few)) in
-    let octets : length c.octets-of-octets.result.now ≡ length (frame_octets line) = ap length c.octets-of-octets.ensures in
+    let octets : length c.octets_of-octets.result.now ≡ length (frame_octets line) = ap length c.octets_of-octets.ensures in
     let whole = length_line (head_text line) (frame_octets line) in
     let short : length c.args.buffer.now < length (line_text line) =
     elim c.then-room-draft.branch [ then-room-draft-via-then-room-draft w ↦ omega arith | then-room-draft-via-else-room-draft+then-room-draft-2 w ↦ omega arith ] in
@@ -28,15 +28,15 @@ returns c =
     let held : length c.head-draft.result.text ≡ 64 = search rules in
     let long : length (drafted draft) ≡ draft.len = length-take-le draft.len draft.text (omega (arith, c.head-draft.ensures.few)) in
     let head : length (head_text line) ≡ draft.len = sym (ap length c.head-draft.ensures.text) ∙ long in
-    let octets : length c.octets-of-octets.result.now ≡ length (frame_octets line) = ap length c.octets-of-octets.ensures in
+    let octets : length c.octets_of-octets.result.now ≡ length (frame_octets line) = ap length c.octets_of-octets.ensures in
     let whole = length_line (head_text line) (frame_octets line) in
     let z : draft.len - 0 ≡ draft.len = omega arith in
-    let text : c.put-text.new.buffer ≡ over (head_text line) old =
-    c.put-text.ensures ∙ ap (λ n. over (take n draft.text) old) z ∙ ap (λ l. over l old) c.head-draft.ensures.text in
-    let pairs : c.put-hex-end.new.buffer ≡ over (head_text line ++ flat_map hex_pair (frame_octets line)) old =
-    c.put-hex-end.ensures.after (head_text line) old head (sym c.put-text.auto.buffer) text
-    ∙ ap (λ l. over (head_text line ++ flat_map hex_pair l) old) c.octets-of-octets.ensures in (
+    let text : c.put_text.new.buffer ≡ over (head_text line) old =
+    c.put_text.ensures ∙ ap (λ n. over (take n draft.text) old) z ∙ ap (λ l. over l old) c.head-draft.ensures.text in
+    let pairs : c.put_hex-end.new.buffer ≡ over (head_text line ++ flat_map hex_pair (frame_octets line)) old =
+    c.put_hex-end.ensures.after (head_text line) old head (sym c.put_text.auto.buffer) text
+    ∙ ap (λ l. over (head_text line ++ flat_map hex_pair l) old) c.octets_of-octets.ensures in (
       omega arith,
-      omega (arith, c.put-hex-end.ensures.end),
-      ended (head_text line) (frame_octets line) old c.put-hex-end.new.buffer c.put-hex-end.result (omega (arith, c.put-hex-end.ensures.end)) (omega (arith, c.put-hex-end.ensures.end)) pairs,
+      omega (arith, c.put_hex-end.ensures.end),
+      ended (head_text line) (frame_octets line) old c.put_hex-end.new.buffer c.put_hex-end.result (omega (arith, c.put_hex-end.ensures.end)) (omega (arith, c.put_hex-end.ensures.end)) pairs,
     )

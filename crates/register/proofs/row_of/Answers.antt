@@ -3,6 +3,6 @@ use Rattle.register.specs.Register.{row}
 use Rattle.register.proofs.RowTests.{rows_right, right, public_row, private_row}
 use Rattle.register.proofs.row_of.Goals as goal
 
-pub row-in-requires : goal.row-in-requires
+pub row_in-requires : goal.row_in-requires
 unfolding right public_row private_row row
-row-in-requires c = rows_right _ tt
+row_in-requires c = rows_right _ tt

@@ -15,8 +15,8 @@ use Rattle.composer.proofs.writing.write_group.Goals.{then-item-octet, else-item
 pub loop-item-init : goal.loop-item-init
 loop-item-init c = written_none c.args.group c.args.items.now c.args.values.now (c.args.start + 3) _
 
-pub write-item-end-requires : goal.write-item-end-requires
-write-item-end-requires c =
+pub write_item-end-requires : goal.write_item-end-requires
+write_item-end-requires c =
     let g = c.args.group in
     let items = c.args.items.now in
     let values = c.args.values.now in
@@ -36,8 +36,8 @@ loop-item-preserved c =
       | then-item-octet w ↦
           written_more g items values (c.args.start + 3) i c.loop-item.end c.if-item-octet.end _ c.loop-item.out c.if-item-octet.out
           c.loop-item-test.true right c.loop-item.invariant
-          (w.if-item-octet.true ∙ c.octet-in-loop-item.ensures) c.loop-item.auto.out (w.end-is ∙ w.write-item-end.ensures.end)
-          (λ front old long same is. w.out_is ∙ w.write-item-end.ensures.put front old long same is)
+          (w.if-item-octet.true ∙ c.octet-in-loop-item.ensures) c.loop-item.auto.out (w.end-is ∙ w.write_item-end.ensures.end)
+          (λ front old long same is. w.out_is ∙ w.write_item-end.ensures.put front old long same is)
       | else-item-octet w ↦
           written-past g items values (c.args.start + 3) i c.loop-item.end c.if-item-octet.end _ c.loop-item.out c.if-item-octet.out
           c.loop-item-test.true right c.loop-item.invariant

@@ -8,7 +8,7 @@ returns c =
     let start = c.args.start in
     record {
       end = omega arith;
-      put = put_item item c.args.values.now c.args.out.now c.copy-from-slice.new.self start
+      put = put_item item c.args.values.now c.args.out.now c.copy_from_slice.new.self start
           (start + 2 + item.length - (start + 2)) (item.place + item.length - item.place)
-          c.requires.right c.requires.room (omega arith) (omega arith) c.copy-from-slice.ensures.after;
+          c.requires.right c.requires.room (omega arith) (omega arith) c.copy_from_slice.ensures.after;
     }

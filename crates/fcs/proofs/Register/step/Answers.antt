@@ -5,6 +5,6 @@ use Rattle.fcs.specs.Sequence.{moved, after}
 use Rattle.fcs.specs.Table.{OctetMoves}
 use Rattle.fcs.proofs.Register.step.Goals as goal
 
-pub moved-by-self-requires : goal.moved-by-self-requires
+pub moved_by-self-requires : goal.moved_by-self-requires
 unfolding OctetMoves after moved low xor
-moved-by-self-requires c = tt
+moved_by-self-requires c = tt

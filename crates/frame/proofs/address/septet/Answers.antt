@@ -7,6 +7,6 @@ use Rattle.frame.proofs.address.septet.Goals as goal
 
 pub returns : goal.returns
 returns c =
-    ap (λ n. bit_or n (bool_byte c.args.mark)) c.reverse-bits.ensures
+    ap (λ n. bit_or n (bool_byte c.args.mark)) c.reverse_bits.ensures
     ∙ ap (made c.args.mark) (and_mask c.args.bits 7)
     ∙ septet-made c.args.mark c.args.bits

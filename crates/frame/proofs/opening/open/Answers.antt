@@ -5,31 +5,31 @@ use Rattle.frame.proofs.Firsts.{first-source-mark, first-source-type, first-at-c
 use Rattle.frame.proofs.Headers.{read_is_frame}
 use Rattle.frame.proofs.opening.open.Goals as goal
 
-pub returns-in-Some-wrong-mark : goal.returns-in-Some-wrong-mark
-returns-in-Some-wrong-mark c =
+pub returns-in-Some-wrong_mark : goal.returns-in-Some-wrong_mark
+returns-in-Some-wrong_mark c =
     first-source-mark c.args.octets.now (omega (arith, ltb-false)) (omega arith)
-    c.in-default-wrong-mark.ensures c.in-Some-wrong-mark.place c.in-Some-wrong-mark.ensures
+    c.in-default-wrong_mark.ensures c.in-Some-wrong_mark.place c.in-Some-wrong_mark.ensures
 
-pub returns-in-err-source : goal.returns-in-err-source
-returns-in-err-source c =
-    let p = err_from_is_err_and c.from-residual-in-err-source.result c.from-residual-in-err-source.ensures.1 in
-    let h = c.in-err-source.ensures in
+pub returns-in_err-source : goal.returns-in_err-source
+returns-in_err-source c =
+    let p = err_from_is_err_and c.from-residual-in_err-source.result c.from-residual-in_err-source.ensures.1 in
+    let h = c.in_err-source.ensures in
     rw (p.1, p.2, h.1)
     (first-source-type c.args.octets.now (omega (arith, ltb-false)) (omega arith)
-    c.in-ok-destination.destination c.in-ok-destination.ensures c.in-default-wrong-mark-2.ensures h.0)
+    c.in_ok-destination.destination c.in_ok-destination.ensures c.in-default-wrong_mark-2.ensures h.0)
 
-pub returns-in-err-control : goal.returns-in-err-control
-returns-in-err-control c =
-    let p = err_from_is_err_and c.from-residual-in-err-control.result c.from-residual-in-err-control.ensures.1 in
+pub returns-in_err-control : goal.returns-in_err-control
+returns-in_err-control c =
+    let p = err_from_is_err_and c.from-residual-in_err-control.result c.from-residual-in_err-control.ensures.1 in
     rw (p.1, p.2)
     (first-at-control c.args.octets.now (omega (arith, ltb-false)) (omega arith)
-    c.in-ok-destination.destination c.in-ok-destination.ensures
-    c.in-ok-source.source c.in-ok-source.ensures
-    c.in-err-control.field-0.0 c.in-err-control.ensures)
+    c.in_ok-destination.destination c.in_ok-destination.ensures
+    c.in_ok-source.source c.in_ok-source.ensures
+    c.in_err-control.field-0.0 c.in_err-control.ensures)
 
-pub returns-in-ok-control : goal.returns-in-ok-control
-returns-in-ok-control c =
+pub returns-in_ok-control : goal.returns-in_ok-control
+returns-in_ok-control c =
     read_is_frame c.args.octets.now (omega (arith, ltb-false)) (omega arith) (λ i. omega (arith, c.type-inv.octets i))
-    c.in-ok-destination.destination c.in-ok-source.source
-    c.in-ok-destination.ensures c.in-ok-source.ensures
-    c.in-ok-control.control c.in-ok-control.ensures
+    c.in_ok-destination.destination c.in_ok-source.source
+    c.in_ok-destination.ensures c.in_ok-source.ensures
+    c.in_ok-control.control c.in_ok-control.ensures

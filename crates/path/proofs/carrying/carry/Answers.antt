@@ -6,17 +6,17 @@ use Rattle.path.specs.Dry.{placed}
 use Rattle.path.proofs.Carried.{hears_some, carried}
 use Rattle.path.proofs.carrying.carry.Goals as goal
 
-pub returns-in-Err-open-all : goal.returns-in-Err-open-all
-returns-in-Err-open-all g c = (
+pub returns-in-Err-open_all : goal.returns-in-Err-open_all
+returns-in-Err-open_all g c = (
   (c.in-Ok.bits, c.in-Ok.ensures),
-  hears_some (HasHeard c.args.receiver.now) (HasHeard c.hear-all.new.receiver) (g.S.BitSource.waiting c.args.source.now) (g.S.BitSource.waiting c.hear-all.new.source)
-      c.in-Ok-hear-all.heard.taken (vec_items c.in-Ok-hear-all.heard.events) c.in-Ok-hear-all.ensures,
+  hears_some (HasHeard c.args.receiver.now) (HasHeard c.hear_all.new.receiver) (g.S.BitSource.waiting c.args.source.now) (g.S.BitSource.waiting c.hear_all.new.source)
+      c.in-Ok-hear_all.heard.taken (vec_items c.in-Ok-hear_all.heard.events) c.in-Ok-hear_all.ensures,
 )
 
 pub returns : goal.returns
 returns g c =
-    carried (HasHeard c.args.receiver.now) (HasHeard c.hear-all.new.receiver) (g.S.BitSource.waiting c.args.source.now) (g.S.BitSource.waiting c.hear-all.new.source)
-    (g.K.BitSink.held c.args.sink.now) (g.K.BitSink.held c.write-list.new.sink) (g.K.BitSink.space c.args.sink.now) (g.K.BitSink.space c.write-list.new.sink)
-    c.args.orders.now c.args.buffer.now c.in-Ok.bits c.in-Ok-hear-all.heard.taken (vec_items c.in-Ok-hear-all.heard.events) (vec_items c.in-Ok-open-all.arrivals)
-    c.in-Ok.ensures c.in-Ok-hear-all.ensures
-    (subst (λ events. (map arrived_placed (vec_items c.in-Ok-open-all.arrivals) ≡ map placed events) × AllByRecursion Judges (vec_items c.in-Ok-open-all.arrivals)) c.deref.ensures.value c.in-Ok-open-all.ensures)
+    carried (HasHeard c.args.receiver.now) (HasHeard c.hear_all.new.receiver) (g.S.BitSource.waiting c.args.source.now) (g.S.BitSource.waiting c.hear_all.new.source)
+    (g.K.BitSink.held c.args.sink.now) (g.K.BitSink.held c.write_list.new.sink) (g.K.BitSink.space c.args.sink.now) (g.K.BitSink.space c.write_list.new.sink)
+    c.args.orders.now c.args.buffer.now c.in-Ok.bits c.in-Ok-hear_all.heard.taken (vec_items c.in-Ok-hear_all.heard.events) (vec_items c.in-Ok-open_all.arrivals)
+    c.in-Ok.ensures c.in-Ok-hear_all.ensures
+    (subst (λ events. (map arrived_placed (vec_items c.in-Ok-open_all.arrivals) ≡ map placed events) × AllByRecursion Judges (vec_items c.in-Ok-open_all.arrivals)) c.deref.ensures.value c.in-Ok-open_all.ensures)

@@ -7,27 +7,27 @@ use Rattle.path.specs.declared.dry.Event.TheVariants.{Aborted, Refused, Frame}
 use Rattle.path.proofs.Noting.{event_more}
 use Rattle.path.proofs.dry.note.Goals as goal
 
-pub returns-in-ok-push : goal.returns-in-ok-push
-returns-in-ok-push c =
+pub returns-in_ok-push : goal.returns-in_ok-push
+returns-in_ok-push c =
     event_more (vec_items c.args.events.now) (vec_items c.push.new.self) (Aborted c.args.taken) (verdict_of c.args.answer c.args.buffer.now) c.args.taken
-    (pushed (Aborted c.args.taken ∷ []) refl c.in-ok-push.was c.push.ensures.items)
+    (pushed (Aborted c.args.taken ∷ []) refl c.in_ok-push.was c.push.ensures.items)
     (ap (λ a. noted (verdict_of a c.args.buffer.now) c.args.taken) c.in-Aborted.is)
 
-pub returns-in-ok-push-2 : goal.returns-in-ok-push-2
-returns-in-ok-push-2 c =
+pub returns-in_ok-push-2 : goal.returns-in_ok-push-2
+returns-in_ok-push-2 c =
     let e = Refused c.args.taken c.in-Refused.fault in
     event_more (vec_items c.args.events.now) (vec_items c.push-in-Refused.new.self) e (verdict_of c.args.answer c.args.buffer.now) c.args.taken
-    (pushed (e ∷ []) refl c.in-ok-push-2.was c.push-in-Refused.ensures.items)
+    (pushed (e ∷ []) refl c.in_ok-push-2.was c.push-in-Refused.ensures.items)
     (ap (λ a. noted (verdict_of a c.args.buffer.now) c.args.taken) c.in-Refused.is)
 
-pub returns-in-ok-push-3 : goal.returns-in-ok-push-3
-returns-in-ok-push-3 c =
+pub returns-in_ok-push-3 : goal.returns-in_ok-push-3
+returns-in_ok-push-3 c =
     let n = c.in-Frame.n in
     let buffer = c.args.buffer.now in
-    let e = Frame c.args.taken c.in-ok-octets.octets in
+    let e = Frame c.args.taken c.in_ok-octets.octets in
     let z : n - 0 ≡ n = omega arith in
-    let octets : take n buffer ≡ vec_items c.in-ok-octets.octets =
-    ap (λ k. take k buffer) (sym z) ∙ sym (c.in-ok-octets.ensures.items-if-clones-equal (λ x y k. search rules)) in
+    let octets : take n buffer ≡ vec_items c.in_ok-octets.octets =
+    ap (λ k. take k buffer) (sym z) ∙ sym (c.in_ok-octets.ensures.items-if-clones-equal (λ x y k. search rules)) in
     event_more (vec_items c.args.events.now) (vec_items c.push-in-Frame.new.self) e (verdict_of c.args.answer buffer) c.args.taken
-    c.in-ok-push-3.ensures.items
+    c.in_ok-push-3.ensures.items
     (ap (λ a. noted (verdict_of a buffer) c.args.taken) c.in-Frame.is ∙ ap (λ l. noted (Some (frame l)) c.args.taken) octets)

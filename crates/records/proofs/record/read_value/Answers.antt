@@ -9,7 +9,7 @@ returns-in-Public c = read_public c.args.group c.args.identifier c.args.value c.
 
 pub returns-in-0 : goal.returns-in-0
 unfolding shape
-returns-in-0 c = read_private 0x00 _ _ c.in-Private.is c.in-0.is c.set-identification.ensures
+returns-in-0 c = read_private 0x00 _ _ c.in-Private.is c.in-0.is c.set_identification.ensures
 
 pub returns-in-64 : goal.returns-in-64
 unfolding shape

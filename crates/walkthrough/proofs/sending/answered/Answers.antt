@@ -10,6 +10,6 @@ pub unreachable-requires : goal.unreachable-requires
 unfolding foretold
 unreachable-requires c =
     let held : length c.args.memory.now ≡ 64 = search rules in
-    let room : 512 ≤ pile_space c.pile-sink-sink.result = omega (arith, c.pile-sink-sink.ensures.space) in
-    let enough : foretold (length (layout (answer c.args.debt true (0x82 ∷ [])))) ≤ pile_space c.pile-sink-sink.result = omega arith in
-    payable c.args.debt true (0x82 ∷ []) (pile_space c.pile-sink-sink.result) c.in-Err.field-0.error (omega arith) enough c.in-Err.ensures.0.0
+    let room : 512 ≤ pile_space c.pile_sink-sink.result = omega (arith, c.pile_sink-sink.ensures.space) in
+    let enough : foretold (length (layout (answer c.args.debt true (0x82 ∷ [])))) ≤ pile_space c.pile_sink-sink.result = omega arith in
+    payable c.args.debt true (0x82 ∷ []) (pile_space c.pile_sink-sink.result) c.in-Err.field-0.error (omega arith) enough c.in-Err.ensures.0.0

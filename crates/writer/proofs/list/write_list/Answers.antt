@@ -7,7 +7,7 @@ use Rattle.writer.proofs.list.write_list.Goals as goal
 pub loop-index-preserved : goal.loop-index-preserved
 loop-index-preserved g c =
     list_more g.S.BitSink.held g.S.BitSink.space c.args.orders.now c.args.buffer.now c.loop-index.index c.args.sink.now
-    c.loop-index.sink c.write-order.new.sink c.in-Ok.field-0 _ c.loop-index-test.true c.loop-index.invariant c.in-Ok.ensures
+    c.loop-index.sink c.write_order.new.sink c.in-Ok.field-0 _ c.loop-index-test.true c.loop-index.invariant c.in-Ok.ensures
 
 pub returns-in-Err : goal.returns-in-Err
 returns-in-Err g c =
@@ -15,8 +15,8 @@ returns-in-Err g c =
     let w = c.in-Err.ensures in
     let back =
     taken_back k.held k.space c.args.orders.now c.args.buffer.now c.loop-index.index c.args.sink.now c.loop-index.sink
-    c.write-order.new.sink c.cut-back.new.self c.count-before.result c.cut-back.result c.loop-index.invariant w.1 w.2
-    c.count-before.ensures c.cut-back.ensures in (
+    c.write_order.new.sink c.cut_back.new.self c.count-before.result c.cut_back.result c.loop-index.invariant w.1 w.2
+    c.count-before.ensures c.cut_back.ensures in (
       list_refused k.held k.space c.args.orders.now c.args.buffer.now c.loop-index.index c.args.sink.now c.loop-index.sink
           _ c.in-Err.error c.loop-index-test.true c.loop-index.invariant w.0,
       back.0,

@@ -12,87 +12,87 @@ use Rattle.writer.proofs.FrameParts.{inner, two, register_is, inner_parts, inner
 use Rattle.writer.proofs.Puts.{stuffed-none, stuffed_more, next_room, appended_to, appended_long}
 use Rattle.writer.proofs.put.put_frame.Goals as goal
 
-pub put-octets-ones-requires : goal.put-octets-ones-requires
-put-octets-ones-requires g c =
+pub put_octets-ones-requires : goal.put_octets-ones-requires
+put_octets-ones-requires g c =
     let h = c.args.header.now in
     let i = c.args.information.now in
     let k = g.S.BitSink in
-    let s = c.put-flag.new.sink in
+    let s = c.put_flag.new.sink in
     let q = sequence (h ++ i) in
-    let r = inner_room (h ++ i) c.requires c.put-flag.ensures in (
+    let r = inner_room (h ++ i) c.requires c.put_flag.ensures in (
       omega arith,
       next_room (stuffed-none 0 (k.held s) (k.space s) (omega arith)) (inner (h ++ i)) (sent h) (sent i ++ two q) (inner_parts h i q refl) (omega arith),
     )
 
-pub put-octets-ones-requires-2 : goal.put-octets-ones-requires-2
-put-octets-ones-requires-2 g c =
+pub put_octets-ones-requires-2 : goal.put_octets-ones-requires-2
+put_octets-ones-requires-2 g c =
     let h = c.args.header.now in
     let i = c.args.information.now in
     let q = sequence (h ++ i) in
-    let r = inner_room (h ++ i) c.requires c.put-flag.ensures in (
-      c.put-octets-ones.ensures.put.few,
-      next_room c.put-octets-ones.ensures.put (inner (h ++ i)) (sent i) (two q) (inner_parts h i q refl) (omega arith),
+    let r = inner_room (h ++ i) c.requires c.put_flag.ensures in (
+      c.put_octets-ones.ensures.put.few,
+      next_room c.put_octets-ones.ensures.put (inner (h ++ i)) (sent i) (two q) (inner_parts h i q refl) (omega arith),
     )
 
-pub put-octet-ones-requires : goal.put-octet-ones-requires
-put-octet-ones-requires g c =
+pub put_octet-ones-requires : goal.put_octet-ones-requires
+put_octet-ones-requires g c =
     let h = c.args.header.now in
     let i = c.args.information.now in
     let q = c.sequence-sequence.result in
     let is =
-    register_is h i c.new-register.ensures c.put-octets-ones.ensures.moved c.put-octets-ones-2.ensures.moved
+    register_is h i c.new-register.ensures c.put_octets-ones.ensures.moved c.put_octets-ones-2.ensures.moved
     c.sequence-sequence.ensures in
-    let r = inner_room (h ++ i) c.requires c.put-flag.ensures in (
-      c.put-octets-ones-2.ensures.put.few,
-      next_room (stuffed_more c.put-octets-ones.ensures.put c.put-octets-ones-2.ensures.put) (inner (h ++ i)) (low 8 (bit_and q 255))
+    let r = inner_room (h ++ i) c.requires c.put_flag.ensures in (
+      c.put_octets-ones-2.ensures.put.few,
+      next_room (stuffed_more c.put_octets-ones.ensures.put c.put_octets-ones-2.ensures.put) (inner (h ++ i)) (low 8 (bit_and q 255))
           (low 8 (q / 256)) (inner_parts h i q is ∙ sym (append_assoc (sent h) (sent i) (two q))) (omega arith),
     )
 
-pub put-octet-requires : goal.put-octet-requires
-put-octet-requires g c =
+pub put_octet-requires : goal.put_octet-requires
+put_octet-requires g c =
     let h = c.args.header.now in
     let i = c.args.information.now in
     let q = c.sequence-sequence.result in
     let is =
-    register_is h i c.new-register.ensures c.put-octets-ones.ensures.moved c.put-octets-ones-2.ensures.moved
+    register_is h i c.new-register.ensures c.put_octets-ones.ensures.moved c.put_octets-ones-2.ensures.moved
     c.sequence-sequence.ensures in
-    let r = inner_room (h ++ i) c.requires c.put-flag.ensures in
+    let r = inner_room (h ++ i) c.requires c.put_flag.ensures in
     let l : Bits = low 8 (bit_and q 255) in
     let m : Bits = low 8 (q / 256) in
     let e : sent h ++ (sent i ++ two q) ≡ (sent h ++ (sent i ++ l)) ++ (m ++ [])
     = ap (λ (x : Bits). sent h ++ x) (sym (append_assoc (sent i) l m))
     ∙ sym (append_assoc (sent h) (sent i ++ l) m)
     ∙ ap (λ (x : Bits). (sent h ++ (sent i ++ l)) ++ x) (sym (append-nil m)) in (
-      c.put-octet-ones.ensures.few,
-      next_room (stuffed_more c.put-octets-ones.ensures.put (stuffed_more c.put-octets-ones-2.ensures.put c.put-octet-ones.ensures))
+      c.put_octet-ones.ensures.few,
+      next_room (stuffed_more c.put_octets-ones.ensures.put (stuffed_more c.put_octets-ones-2.ensures.put c.put_octet-ones.ensures))
           (inner (h ++ i)) m [] (inner_parts h i q is ∙ e) (omega arith),
     )
 
-pub put-flag-requires-2 : goal.put-flag-requires-2
-put-flag-requires-2 g c =
+pub put_flag-requires-2 : goal.put_flag-requires-2
+put_flag-requires-2 g c =
     let h = c.args.header.now in
     let i = c.args.information.now in
     let q = c.sequence-sequence.result in
     let is =
-    register_is h i c.new-register.ensures c.put-octets-ones.ensures.moved c.put-octets-ones-2.ensures.moved
+    register_is h i c.new-register.ensures c.put_octets-ones.ensures.moved c.put_octets-ones-2.ensures.moved
     c.sequence-sequence.ensures in
-    let r = inner_room (h ++ i) c.requires c.put-flag.ensures in
-    let all = inner_put h i q is c.put-octets-ones.ensures.put c.put-octets-ones-2.ensures.put c.put-octet-ones.ensures c.put-octet.ensures in
+    let r = inner_room (h ++ i) c.requires c.put_flag.ensures in
+    let all = inner_put h i q is c.put_octets-ones.ensures.put c.put_octets-ones-2.ensures.put c.put_octet-ones.ensures c.put_octet.ensures in
     omega (arith, all.lowered)
 
 -- what was put, counted by the sink
 whole : (g : _) (c : goal.After-count g)
     → Appended (frame_bits (c.args.header.now ++ c.args.information.now)) (g.S.BitSink.held c.args.sink.now) (g.S.BitSink.space c.args.sink.now)
-    (c.count.result - c.count-before.result) (g.S.BitSink.held c.put-flag-2.new.sink) (g.S.BitSink.space c.put-flag-2.new.sink)
+    (c.count.result - c.count-before.result) (g.S.BitSink.held c.put_flag-2.new.sink) (g.S.BitSink.space c.put_flag-2.new.sink)
 whole g c =
     let h = c.args.header.now in
     let i = c.args.information.now in
     let q = c.sequence-sequence.result in
     let is =
-    register_is h i c.new-register.ensures c.put-octets-ones.ensures.moved c.put-octets-ones-2.ensures.moved
+    register_is h i c.new-register.ensures c.put_octets-ones.ensures.moved c.put_octets-ones-2.ensures.moved
     c.sequence-sequence.ensures in
-    let all = inner_put h i q is c.put-octets-ones.ensures.put c.put-octets-ones-2.ensures.put c.put-octet-ones.ensures c.put-octet.ensures in
-    appended_to (omega (arith, c.count.ensures, c.count-before.ensures)) (frame_put (h ++ i) c.put-flag.ensures all c.put-flag-2.ensures)
+    let all = inner_put h i q is c.put_octets-ones.ensures.put c.put_octets-ones-2.ensures.put c.put_octet-ones.ensures c.put_octet.ensures in
+    appended_to (omega (arith, c.count.ensures, c.count-before.ensures)) (frame_put (h ++ i) c.put_flag.ensures all c.put_flag-2.ensures)
 
 pub overflow-sub-result : goal.overflow-sub-result
 overflow-sub-result g c = let l = appended_long (whole g c) in omega (arith, c.count.ensures, c.count-before.ensures)

@@ -6,8 +6,8 @@ use Rattle.writer.proofs.OctetBits.{low_next, low_done}
 use Rattle.writer.proofs.Puts.{stuffed-none, stuffed_more, stuffed_as, next_room}
 use Rattle.writer.proofs.put.put_octet.Goals as goal
 
-pub put-bit-ones-requires : goal.put-bit-ones-requires
-put-bit-ones-requires g c =
+pub put_bit-ones-requires : goal.put_bit-ones-requires
+put_bit-ones-requires g c =
     let i = c.loop.invariant in
     let j = c.loop.counter in
     let n = c.loop.rest in (
@@ -27,7 +27,7 @@ loop-preserved g c =
     let b : Bits = eqb (n % 2) 1 ∷ [] in (
       i.0 ++ b,
       i.1 ∙ ap (λ (l : Bits). i.0 ++ l) (low_next j n c.loop-test.true) ∙ sym (append_assoc i.0 b (low (8 - (j + 1)) (n / 2))),
-      stuffed_more i.2 c.put-bit-ones.ensures,
+      stuffed_more i.2 c.put_bit-ones.ensures,
     )
 
 pub returns : goal.returns

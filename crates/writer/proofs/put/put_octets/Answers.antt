@@ -8,8 +8,8 @@ use Rattle.writer.proofs.OctetBits.{sent_split, register_more}
 use Rattle.writer.proofs.Puts.{stuffed-none, stuffed_more, stuffed_as, next_room}
 use Rattle.writer.proofs.put.put_octets.Goals as goal
 
-pub put-octet-ones-requires : goal.put-octet-ones-requires
-put-octet-ones-requires g c =
+pub put_octet-ones-requires : goal.put_octet-ones-requires
+put_octet-ones-requires g c =
     let os = c.args.octets.now in
     let i = c.loop-octet.octet-index in (
       c.loop-octet.invariant.0.few,
@@ -26,7 +26,7 @@ loop-octet-preserved g c =
     let os = c.args.octets.now in
     let i = c.loop-octet.octet-index in
     let h = c.loop-octet-test.true in (
-      stuffed_as (sym (sent_more os i h)) (stuffed_more c.loop-octet.invariant.0 c.put-octet-ones.ensures),
+      stuffed_as (sym (sent_more os i h)) (stuffed_more c.loop-octet.invariant.0 c.put_octet-ones.ensures),
       register_more os i c.args.register.now.value c.loop-octet.register.value c.step.new.self.value h c.loop-octet.invariant.1
           c.step.ensures,
     )

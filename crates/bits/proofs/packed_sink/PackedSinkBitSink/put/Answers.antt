@@ -10,13 +10,13 @@ pub returns : goal.returns
 returns c =
     let s = c.args.self.now in
     let os = s.octets.now in
-    let os' = set os (s.count / 8) c.with-bit.result in
+    let os' = set os (s.count / 8) c.with_bit.result in
     let b = c.args.bit in
     let within : s.count < 8 * length os = omega arith in
-    let same : length os' ≡ length os = length-set os (s.count / 8) c.with-bit.result in
+    let same : length os' ≡ length os = length-set os (s.count / 8) c.with_bit.result in
     let was : s.count ≡ packed_count s = omega arith in
     let is : min (s.count + 1) (min s.end (8 * length os')) ≡ s.count + 1 = omega arith in
-    let written = sent_set os s.count c.with-bit.result b within c.with-bit.ensures in
+    let written = sent_set os s.count c.with_bit.result b within c.with_bit.ensures in
     record {
       meaning = (
         ap (λ k. take k (sent os')) is ∙ held_more os os' s.count b within written ∙ ap (λ k. take k (sent os) ++ b ∷ []) was,

@@ -9,12 +9,12 @@ returns c =
     let s = c.args.self.now in
     let os = s.octets.now in
     let b = c.args.bit in
-    let os' = set os s.count c.octet-of.result in
+    let os' = set os s.count c.octet_of.result in
     let within : s.count < length os = omega arith in
-    let same : length os' ≡ length os = length-set os s.count c.octet-of.result in
+    let same : length os' ≡ length os = length-set os s.count c.octet_of.result in
     let was : s.count ≡ text_count s = omega arith in
     let is : min (s.count + 1) (min s.end (length os')) ≡ s.count + 1 = omega arith in
-    let put : os' ≡ set os s.count (text_octet b) = ap (set os s.count) c.octet-of.ensures in
+    let put : os' ≡ set os s.count (text_octet b) = ap (set os s.count) c.octet_of.ensures in
     record {
       meaning = (
         ap (λ k. map (λ o. eqb o 49) (take k os')) is

@@ -15,12 +15,12 @@ returns-then-first-ne0 c s a h e =
 
 pub returns-in-None : goal.returns-in-None
 returns-in-None c =
-    let laid = joined_laid c.args.octets (omega arith) c.bits-of.ensures c.bits-of-2.ensures c.bits-of-3.ensures c.bits-of-4.ensures
+    let laid = joined_laid c.args.octets (omega arith) c.bits_of.ensures c.bits_of-2.ensures c.bits_of-3.ensures c.bits_of-4.ensures
     c.if-first-ne0.false c.if-second-ne0.false c.if-third-ne0.false c.if-fourth-ne1.false in
     read_none c.args.octets _ laid (omega arith) c.in-None.ensures
 
 pub returns-in-Some : goal.returns-in-Some
 returns-in-Some c =
-    let laid = joined_laid c.args.octets (omega arith) c.bits-of.ensures c.bits-of-2.ensures c.bits-of-3.ensures c.bits-of-4.ensures
+    let laid = joined_laid c.args.octets (omega arith) c.bits_of.ensures c.bits_of-2.ensures c.bits_of-3.ensures c.bits_of-4.ensures
     c.if-first-ne0.false c.if-second-ne0.false c.if-third-ne0.false c.if-fourth-ne1.false in
     read_some c.args.octets _ laid (omega arith) c.in-Some.kind c.in-Some.ensures

@@ -6,11 +6,11 @@ use Rattle.frame.proofs.control.Control.decode.Goals as goal
 pub overflow-sub-polled : goal.overflow-sub-polled
 overflow-sub-polled c = (polled_from c.args.octet c.if-polled-ne0.true).0
 
-pub without-poll-requires : goal.without-poll-requires
-without-poll-requires c = (polled_from c.args.octet c.if-polled-ne0.true).1
+pub without_poll-requires : goal.without_poll-requires
+without_poll-requires c = (polled_from c.args.octet c.if-polled-ne0.true).1
 
 pub returns-then-polled-ne0 : goal.returns-then-polled-ne0
 returns-then-polled-ne0 c =
     let from = polled_from c.args.octet c.if-polled-ne0.true in
     let whole : c.args.octet - 16 + 16 ≡ c.args.octet = omega arith in
-    subst (λ o. ControlRead o c.without-poll.result) whole c.without-poll.ensures
+    subst (λ o. ControlRead o c.without_poll.result) whole c.without_poll.ensures

@@ -27,7 +27,7 @@ loop-preserved g c =
     let w = low 15 c.args.self.now.register in
     let d = c.loop.counter - c.args.count in
     let next : suc d ≡ c.loop.counter + 1 - c.args.count = omega (arith, c.loop.auto.counter) in (
-      c.moved-back-self.ensures ∙ ap backward c.loop.invariant.0 ∙ moved_last backward d w ∙ ap (λ n. moved backward n w) next,
+      c.moved_back-self.ensures ∙ ap backward c.loop.invariant.0 ∙ moved_last backward d w ∙ ap (λ n. moved backward n w) next,
       c.loop.invariant.1,
     )
 

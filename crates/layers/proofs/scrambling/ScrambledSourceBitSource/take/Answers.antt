@@ -33,8 +33,8 @@ returns-after-self-eq0 g c =
     let is = c.in-Some.ensures in
     elim c.if-self-eq0.branch [
       | then-self-eq0 w ↦
-          let queue = w.fourteen-more-self.result in
-          keyed_fourteen s.queue queue s.ahead before w.if-self-eq0.true w.fourteen-more-self.ensures
+          let queue = w.fourteen_more-self.result in
+          keyed_fourteen s.queue queue s.ahead before w.if-self-eq0.true w.fourteen_more-self.ensures
           ∙ keyed_first queue 14 b before after (omega arith) is
           ∙ ap (out g.S.BitSource.waiting b) (sym w.self-is)
       | else-self-eq0 w ↦

@@ -7,13 +7,13 @@ use Rattle.lines.proofs.draft.Draft.+push_number.Goals as goal
 pub push-requires : goal.push-requires
 push-requires t c = omega (arith, c.requires, decimal_nonempty c.args.n (omega arith))
 
-pub push-number-requires : goal.push-number-requires
-push-number-requires t c =
+pub push_number-requires : goal.push_number-requires
+push_number-requires t c =
     (omega arith, omega (arith, c.requires, length_more c.args.n c.if-n-lt10.false (omega arith)))
 
 pub push-requires-else-n-lt10 : goal.push-requires-else-n-lt10
 push-requires-else-n-lt10 t c =
-    omega (arith, c.requires, c.push-number.ensures.len, length_more c.args.n c.if-n-lt10.false (omega arith))
+    omega (arith, c.requires, c.push_number.ensures.len, length_more c.args.n c.if-n-lt10.false (omega arith))
 
 pub returns-then-n-lt10 : goal.returns-then-n-lt10
 returns-then-n-lt10 t c =
@@ -32,8 +32,8 @@ returns-else-n-lt10 t c =
     record {
       text =
           c.push-else-n-lt10.ensures.text
-          ∙ ap (λ l. l ++ last) c.push-number.ensures.text
+          ∙ ap (λ l. l ++ last) c.push_number.ensures.text
           ∙ append_assoc old (decimal (n / 10)) last
           ∙ ap (λ l. old ++ l) (sym (decimal_step n c.if-n-lt10.false (omega arith)));
-      len = omega (arith, c.push-else-n-lt10.ensures.len, c.push-number.ensures.len, length_more n c.if-n-lt10.false (omega arith));
+      len = omega (arith, c.push-else-n-lt10.ensures.len, c.push_number.ensures.len, length_more n c.if-n-lt10.false (omega arith));
     }

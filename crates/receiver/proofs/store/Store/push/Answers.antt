@@ -10,9 +10,9 @@ invariant-of-self-then-self c =
 pub returns-then-place-eq7 : goal.returns-then-place-eq7
 returns-then-place-eq7 c = λ r was.
     let s = c.args.self.now in
-    let o = c.with-bit-octet.result in
-    let few = c.if-self-lt-MOST-BITS.true in
-    let bits = c.with-bit-octet.ensures.bits in
+    let o = c.with_bit-octet.result in
+    let few = c.if-self-lt-MOST_BITS.true in
+    let bits = c.with_bit-octet.ensures.bits in
     record {
       counted = counted_more s o r c.args.bit few was bits;
       packed = packed_full s o r c.args.bit few was bits c.if-place-eq7.true (search rules);
@@ -21,9 +21,9 @@ returns-then-place-eq7 c = λ r was.
 pub returns-else-place-eq7 : goal.returns-else-place-eq7
 returns-else-place-eq7 c = λ r was.
     let s = c.args.self.now in
-    let o = c.with-bit-octet.result in
-    let few = c.if-self-lt-MOST-BITS.true in
-    let bits = c.with-bit-octet.ensures.bits in
+    let o = c.with_bit-octet.result in
+    let few = c.if-self-lt-MOST_BITS.true in
+    let bits = c.with_bit-octet.ensures.bits in
     record {
       counted = counted_more s o r c.args.bit few was bits;
       packed = packed_part s o r c.args.bit few was bits c.if-place-eq7.false;
@@ -32,11 +32,11 @@ returns-else-place-eq7 c = λ r was.
 pub returns-then-self : goal.returns-then-self
 returns-then-self c = λ r was. record {
   counted = let long = length_push r c.args.bit in omega (arith, was.counted);
-  packed = packed_past c.args.self.now r c.args.bit (c.args.self.now.count + 1) c.if-self-lt-MOST-BITS.false (omega arith) was;
+  packed = packed_past c.args.self.now r c.args.bit (c.args.self.now.count + 1) c.if-self-lt-MOST_BITS.false (omega arith) was;
 }
 
 pub returns-else-self : goal.returns-else-self
 returns-else-self c = λ r was. record {
   counted = let long = length_push r c.args.bit in omega (arith, was.counted, c.args.self.now.bound);
-  packed = packed_past c.args.self.now r c.args.bit c.args.self.now.count c.if-self-lt-MOST-BITS.false c.if-self-lt-MOST-BITS.false was;
+  packed = packed_past c.args.self.now r c.args.bit c.args.self.now.count c.if-self-lt-MOST_BITS.false c.if-self-lt-MOST_BITS.false was;
 }

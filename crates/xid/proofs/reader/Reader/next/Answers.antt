@@ -6,17 +6,17 @@ use Rattle.xid.specs.Moving.{Ahead, AheadShorter}
 use Rattle.xid.proofs.Answering.{next_end, next_fault, next-on}
 use Rattle.xid.proofs.reader.Reader.next.Goals as goal
 
-pub returns-in-err-ahead : goal.returns-in-err-ahead
-returns-in-err-ahead c =
+pub returns-in_err-ahead : goal.returns-in_err-ahead
+returns-in_err-ahead c =
     let p = err_from_is_err_and c.from-residual.result c.from-residual.ensures.1 in
-    rw (p.1, p.2) (next_fault c.args.self.now c.in-err-ahead.field-0.0 c.in-err-ahead.ensures.ahead)
+    rw (p.1, p.2) (next_fault c.args.self.now c.in_err-ahead.field-0.0 c.in_err-ahead.ensures.ahead)
 
 pub invariant-of-self : goal.invariant-of-self
 invariant-of-self c =
     let r = c.args.self.now in (
       ∥∥₁_map r.stands
           (λ was.
-          let on = subst (λ o. Ahead r.field.now was.0 (Ok o)) c.in-Some.is (c.in-ok-ahead.ensures.ahead was.0 was.1) in
+          let on = subst (λ o. Ahead r.field.now was.0 (Ok o)) c.in-Some.is (c.in_ok-ahead.ensures.ahead was.0 was.1) in
           (on.0, on.1.0)),
       tt,
     )
@@ -24,11 +24,11 @@ invariant-of-self c =
 pub returns-in-None : goal.returns-in-None
 returns-in-None c =
     let r = c.args.self.now in
-    next_end r (λ b stands. subst (λ o. Ahead r.field.now b (Ok o)) c.in-None.is (c.in-ok-ahead.ensures.ahead b stands))
+    next_end r (λ b stands. subst (λ o. Ahead r.field.now b (Ok o)) c.in-None.is (c.in_ok-ahead.ensures.ahead b stands))
 
 pub returns-in-Some : goal.returns-in-Some
 returns-in-Some c =
     let r = c.args.self.now in
     next-on r c.in-Some.taken.parameter _ refl
-    (λ b stands. subst (λ o. Ahead r.field.now b (Ok o)) c.in-Some.is (c.in-ok-ahead.ensures.ahead b stands))
-    (subst (λ o. AheadShorter r.cursor (Ok o)) c.in-Some.is c.in-ok-ahead.ensures.shorter)
+    (λ b stands. subst (λ o. Ahead r.field.now b (Ok o)) c.in-Some.is (c.in_ok-ahead.ensures.ahead b stands))
+    (subst (λ o. AheadShorter r.cursor (Ok o)) c.in-Some.is c.in_ok-ahead.ensures.shorter)

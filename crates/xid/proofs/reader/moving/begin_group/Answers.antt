@@ -10,8 +10,8 @@ returns-in-None c =
     let long : 3 ≤ length c.args.at.rest.now = omega (arith, ltb-false) in
     record {
       begun = λ b stands whole.
-          first-other b c.args.at.rest.now c.saturating-sub-place.result
-          (group_here c.args.field.now c.args.at b stands whole c.saturating-sub-place.result c.saturating-sub-place.ensures (omega (arith, ltb-false)))
+          first-other b c.args.at.rest.now c.saturating_sub-place.result
+          (group_here c.args.field.now c.args.at b stands whole c.saturating_sub-place.result c.saturating_sub-place.ensures (omega (arith, ltb-false)))
           long c.in-None.ensures;
       shorter = tt;
     }
@@ -21,8 +21,8 @@ returns-then-not-follows c =
     let long : 3 ≤ length c.args.at.rest.now = omega (arith, ltb-false) in
     record {
       begun = λ b stands whole.
-          first-order b c.args.at.rest.now c.saturating-sub-place.result
-          (group_here c.args.field.now c.args.at b stands whole c.saturating-sub-place.result c.saturating-sub-place.ensures (omega (arith, ltb-false)))
+          first-order b c.args.at.rest.now c.saturating_sub-place.result
+          (group_here c.args.field.now c.args.at b stands whole c.saturating_sub-place.result c.saturating_sub-place.ensures (omega (arith, ltb-false)))
           long c.in-Some.group c.in-Some.ensures
           (subst (λ last. Follows last c.in-Some.group → ⊥) stands.group c.if-not-follows.ensures);
       shorter = tt;
@@ -33,8 +33,8 @@ returns-then-length-rest c =
     let long : 3 ≤ length c.args.at.rest.now = omega (arith, ltb-false) in
     record {
       begun = λ b stands whole.
-          first-beyond b c.args.at.rest.now c.saturating-sub-place.result
-          (group_here c.args.field.now c.args.at b stands whole c.saturating-sub-place.result c.saturating-sub-place.ensures (omega (arith, ltb-false)))
+          first-beyond b c.args.at.rest.now c.saturating_sub-place.result
+          (group_here c.args.field.now c.args.at b stands whole c.saturating_sub-place.result c.saturating_sub-place.ensures (omega (arith, ltb-false)))
           long c.in-Some.group c.in-Some.ensures
           (subst (λ last. Follows last c.in-Some.group) stands.group c.if-not-follows.ensures)
           (let rest : length (take (length c.args.at.rest.now - 3) (drop 3 c.args.at.rest.now)) ≡ length c.args.at.rest.now - 3 = simp (length-take, length-drop) (omega arith) in omega arith);
@@ -48,8 +48,8 @@ pub returns-in-default : goal.returns-in-default
 returns-in-default c =
     record {
       begun = λ b stands whole.
-          first_short b c.args.at.rest.now c.saturating-sub-place.result
-          (group_here c.args.field.now c.args.at b stands whole c.saturating-sub-place.result c.saturating-sub-place.ensures (omega (arith, ltb-false)))
+          first_short b c.args.at.rest.now c.saturating_sub-place.result
+          (group_here c.args.field.now c.args.at b stands whole c.saturating_sub-place.result c.saturating_sub-place.ensures (omega (arith, ltb-false)))
           (omega (arith, ltb-true));
       shorter = tt;
     }

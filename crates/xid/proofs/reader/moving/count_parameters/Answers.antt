@@ -10,4 +10,4 @@ loop-count-init c = counted_none c.args.field.now c.new-reader.result c.new-read
 pub loop-count-preserved : goal.loop-count-preserved
 loop-count-preserved c =
     counted_more c.args.field.now c.loop-count.reader c.next.new.self c.loop-count.count c.in-Some.field-0 c.loop-count.invariant
-    (subst (λ o. Next c.loop-count.reader (Ok o) c.next.new.self) c.in-Some.is c.in-ok-next.ensures)
+    (subst (λ o. Next c.loop-count.reader (Ok o) c.next.new.self) c.in-Some.is c.in_ok-next.ensures)

@@ -16,14 +16,14 @@ returns-then-at-length c =
     let ahead = ap length (take_rest c.args.at.rest.now 2) in
     record {
       taken = λ b stands some.
-          first_parameter_beyond b c.args.at.rest.now c.saturating-sub-place.result
-          (parameter_here c.args.field.now c.args.at b stands some c.saturating-sub-place.result c.saturating-sub-place.ensures)
+          first_parameter_beyond b c.args.at.rest.now c.saturating_sub-place.result
+          (parameter_here c.args.field.now c.args.at b stands some c.saturating_sub-place.result c.saturating_sub-place.ensures)
           (inr (elim c.then-at-length.either [ inl few ↦ omega arith | inr few ↦ omega (arith, ltb-false, ahead) ]));
       shorter = tt;
     }
 
-pub returns-in-err-parameter : goal.returns-in-err-parameter
-returns-in-err-parameter c =
+pub returns-in_err-parameter : goal.returns-in_err-parameter
+returns-in_err-parameter c =
     let p = err_from_is_err_and c.from-residual.result c.from-residual.ensures.1 in
     let rest = c.args.at.rest.now in
     let n = get_or rest 1 0 in
@@ -33,11 +33,11 @@ returns-in-err-parameter c =
     rw (p.1, p.2)
     (record {
       taken = λ b stands some.
-          first-fault b rest c.saturating-sub-place.result
-          (parameter_here c.args.field.now c.args.at b stands some c.saturating-sub-place.result c.saturating-sub-place.ensures)
-          (omega arith) c.unwrap-or-group.result (group_known c.args.field.now c.args.at b stands some c.unwrap-or-group.result c.unwrap-or-group.ensures)
+          first-fault b rest c.saturating_sub-place.result
+          (parameter_here c.args.field.now c.args.at b stands some c.saturating_sub-place.result c.saturating_sub-place.ensures)
+          (omega arith) c.unwrap_or-group.result (group_known c.args.field.now c.args.at b stands some c.unwrap_or-group.result c.unwrap_or-group.ensures)
           (take n (take (length rest - 2) (drop 2 rest))) (value_is rest n) (value-length rest n long)
-          c.in-err-parameter.field-0.0 c.in-err-parameter.ensures;
+          c.in_err-parameter.field-0.0 c.in_err-parameter.ensures;
       shorter = tt;
     })
 
@@ -45,16 +45,16 @@ pub returns-in-default : goal.returns-in-default
 returns-in-default c =
     record {
       taken = λ b stands some.
-          first_parameter_beyond b c.args.at.rest.now c.saturating-sub-place.result
-          (parameter_here c.args.field.now c.args.at b stands some c.saturating-sub-place.result c.saturating-sub-place.ensures)
+          first_parameter_beyond b c.args.at.rest.now c.saturating_sub-place.result
+          (parameter_here c.args.field.now c.args.at b stands some c.saturating_sub-place.result c.saturating_sub-place.ensures)
           (inl (omega (arith, ltb-true, stands.begins.within)));
       shorter = tt;
     }
 
-pub returns-in-ok-parameter : goal.returns-in-ok-parameter
-returns-in-ok-parameter c =
-    let h = c.in-ok-parameter.ensures in
-    let p = shown c.in-ok-parameter.parameter in
+pub returns-in_ok-parameter : goal.returns-in_ok-parameter
+returns-in_ok-parameter c =
+    let h = c.in_ok-parameter.ensures in
+    let p = shown c.in_ok-parameter.parameter in
     let rest = c.args.at.rest.now in
     let n = get_or rest 1 0 in
     let behind = length-drop 2 rest in
@@ -68,12 +68,12 @@ returns-in-ok-parameter c =
               subst (Begins c.args.field.now (parameter b p)) (sym (behind_is rest n))
               (parameter_begins c.args.field.now b rest p stands.begins (omega arith)
               (ap (λ q. q.identifier) h.0) octets (ap (λ q. q.value) h.0 ∙ value_is rest n) (omega arith)
-              (group_known c.args.field.now c.args.at b stands some p.group (ap (λ q. q.group) h.0 ∙ c.unwrap-or-group.ensures))
+              (group_known c.args.field.now c.args.at b stands some p.group (ap (λ q. q.group) h.0 ∙ c.unwrap_or-group.ensures))
               h.1);
           left = omega arith;
           group = stands.group;
         },
-        subst (λ q. Records (shape q.group q.identifier) q.value c.in-ok-parameter.parameter.record) (sym h.0) h.2,
+        subst (λ q. Records (shape q.group q.identifier) q.value c.in_ok-parameter.parameter.record) (sym h.0) h.2,
       );
       shorter = omega (arith, ap length (behind_is rest n), length-drop n (drop 2 rest));
     }
