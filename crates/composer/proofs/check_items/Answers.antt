@@ -15,14 +15,14 @@ returns-in_err-check_item c =
     rw (p.1, p.2) (refused c.args.items.now c.args.values.now c.loop-index.index c.loop-index.totals c.loop-index-test.true c.loop-index.invariant
     c.in_err-check_item.field-0.0 c.in_err-check_item.ensures)
 
-pub overflow-add-totals-in-Public : goal.overflow-add-totals-in-Public
-overflow-add-totals-in-Public c =
+pub overflow_add-totals-in-Public : goal.overflow_add-totals-in-Public
+overflow_add-totals-in-Public c =
     let item = item_at c.args.items.now c.loop-index.index in
     let right = item_right c.loop-index.index item c.args.values.now (ltb 0 c.loop-index.totals.private) c.in_ok-check_item.field-0 c.in_ok-check_item.ensures in
     omega (arith, right.short, c.loop-index.invariant.few)
 
-pub overflow-add-totals-in-Private-2 : goal.overflow-add-totals-in-Private-2
-overflow-add-totals-in-Private-2 c =
+pub overflow_add-totals-in-Private-2 : goal.overflow_add-totals-in-Private-2
+overflow_add-totals-in-Private-2 c =
     let item = item_at c.args.items.now c.loop-index.index in
     let right = item_right c.loop-index.index item c.args.values.now (ltb 0 c.loop-index.totals.private) c.in_ok-check_item.field-0 c.in_ok-check_item.ensures in
     omega (arith, right.short, c.loop-index.invariant.few)

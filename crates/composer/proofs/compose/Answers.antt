@@ -35,10 +35,10 @@ public_front c =
       | then-totals-gt0 w ↦
           front_group Public qs c.in_ok-totals.totals.public sum (0x82 ∷ []) old (set old 0 0x82) c.if-totals-gt0.out 1 c.if-totals-gt0.end lead
           w.if-totals-gt0.true (w.end-is ∙ w.write_group-end.ensures.end) c.if-totals-gt0.auto.out
-          (λ front was long same here. w.out_is ∙ w.write_group-end.ensures.put front was long same here)
+          (λ front was long same here. w.out-is ∙ w.write_group-end.ensures.put front was long same here)
       | else-totals-gt0 w ↦
           front_as_before Public qs c.in_ok-totals.totals.public sum (0x82 ∷ []) old (set old 0 0x82) c.if-totals-gt0.out 1 c.if-totals-gt0.end lead
-          w.if-totals-gt0.false w.end-is w.out_is
+          w.if-totals-gt0.false w.end-is w.out-is
     ]
 
 -- both ways out hold the whole field, which is no longer than it may be

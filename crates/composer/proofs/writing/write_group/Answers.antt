@@ -37,11 +37,11 @@ loop-item-preserved c =
           written_more g items values (c.args.start + 3) i c.loop-item.end c.if-item-octet.end _ c.loop-item.out c.if-item-octet.out
           c.loop-item-test.true right c.loop-item.invariant
           (w.if-item-octet.true ∙ c.octet-in-loop-item.ensures) c.loop-item.auto.out (w.end-is ∙ w.write_item-end.ensures.end)
-          (λ front old long same is. w.out_is ∙ w.write_item-end.ensures.put front old long same is)
+          (λ front old long same is. w.out-is ∙ w.write_item-end.ensures.put front old long same is)
       | else-item-octet w ↦
           written-past g items values (c.args.start + 3) i c.loop-item.end c.if-item-octet.end _ c.loop-item.out c.if-item-octet.out
           c.loop-item-test.true right c.loop-item.invariant
-          (λ e. w.if-item-octet.false (e ∙ sym c.octet-in-loop-item.ensures)) w.end-is w.out_is
+          (λ e. w.if-item-octet.false (e ∙ sym c.octet-in-loop-item.ensures)) w.end-is w.out-is
     ]
 
 pub returns : goal.returns

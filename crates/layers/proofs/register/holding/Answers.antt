@@ -31,6 +31,6 @@ loop-i-preserved c =
     let old = c.loop-i.register in
     let long : length bits ≡ 15 = search rules in
     elim c.if-bits-i.branch [
-      | then-bits-i w ↦ held_more bits i old 1 c.if-bits-i.register long c.loop-i-test.true (omega arith) (sym w.if-bits-i.true) c.loop-i.invariant w.register_is
-      | else-bits-i w ↦ held_more bits i old 0 c.if-bits-i.register long c.loop-i-test.true (omega arith) (sym w.if-bits-i.false) c.loop-i.invariant (w.register_is ∙ plus_zero old)
+      | then-bits-i w ↦ held_more bits i old 1 c.if-bits-i.register long c.loop-i-test.true (omega arith) (sym w.if-bits-i.true) c.loop-i.invariant w.register-is
+      | else-bits-i w ↦ held_more bits i old 0 c.if-bits-i.register long c.loop-i-test.true (omega arith) (sym w.if-bits-i.false) c.loop-i.invariant (w.register-is ∙ plus_zero old)
     ]

@@ -27,7 +27,7 @@ returns-in-Dry g c =
     (hearing_more _ _ _ _ _ _ _ _ _ _ _ _ _ _ _ c.loop-events.invariant.1 l c.in-Some.ensures.1 c.in-Ok-note.ensures) dry.1
 
 pub loop-events-smaller : goal.loop-events-smaller
-loop-events-smaller g c = fewer_wait c.in-Ok.ensures.answers c.in-default.not-Dry (omega arith)
+loop-events-smaller g c = fewer_wait c.in-Ok.ensures.answers c.in_default.not-Dry (omega arith)
 
 pub loop-events-preserved : goal.loop-events-preserved
 loop-events-preserved g c = (

@@ -30,7 +30,7 @@ pub returns-in-200 : goal.returns-in-200
 unfolding shape
 returns-in-200 c = read_private 0xC8 _ _ c.in-Private.is c.in-200.is c.ground.ensures
 
-pub returns-in-default : goal.returns-in-default
-returns-in-default c =
+pub returns-in_default : goal.returns-in_default
+returns-in_default c =
     read_rest c.args.group c.args.identifier c.args.value c.in-Private.is
     (omega arith) (omega arith) (search rules) (search rules) (omega arith) (omega arith) (omega arith)

@@ -23,8 +23,8 @@ returns-in-Err g c =
       back.1,
     )
 
-pub overflow-sub-result : goal.overflow-sub-result
-overflow-sub-result g c = let l = appended_long c.loop-index.invariant.1 in omega (arith, c.count.ensures, c.count-before.ensures)
+pub overflow_sub-result : goal.overflow_sub-result
+overflow_sub-result g c = let l = appended_long c.loop-index.invariant.1 in omega (arith, c.count.ensures, c.count-before.ensures)
 
 pub returns : goal.returns
 returns g c =

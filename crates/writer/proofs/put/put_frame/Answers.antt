@@ -94,8 +94,8 @@ whole g c =
     let all = inner_put h i q is c.put_octets-ones.ensures.put c.put_octets-ones-2.ensures.put c.put_octet-ones.ensures c.put_octet.ensures in
     appended_to (omega (arith, c.count.ensures, c.count-before.ensures)) (frame_put (h ++ i) c.put_flag.ensures all c.put_flag-2.ensures)
 
-pub overflow-sub-result : goal.overflow-sub-result
-overflow-sub-result g c = let l = appended_long (whole g c) in omega (arith, c.count.ensures, c.count-before.ensures)
+pub overflow_sub-result : goal.overflow_sub-result
+overflow_sub-result g c = let l = appended_long (whole g c) in omega (arith, c.count.ensures, c.count-before.ensures)
 
 pub returns : goal.returns
 returns g c =

@@ -3,8 +3,8 @@ use Rattle.frame.specs.Controls.{ControlRead}
 use Rattle.frame.proofs.ControlOctets.{polled_from}
 use Rattle.frame.proofs.control.Control.decode.Goals as goal
 
-pub overflow-sub-polled : goal.overflow-sub-polled
-overflow-sub-polled c = (polled_from c.args.octet c.if-polled-ne0.true).0
+pub overflow_sub-polled : goal.overflow_sub-polled
+overflow_sub-polled c = (polled_from c.args.octet c.if-polled-ne0.true).0
 
 pub without_poll-requires : goal.without_poll-requires
 without_poll-requires c = (polled_from c.args.octet c.if-polled-ne0.true).1

@@ -49,8 +49,8 @@ returns-in-Frame g c =
       };
     }
 
-pub returns-in-default : goal.returns-in-default
-returns-in-default g c =
+pub returns-in_default : goal.returns-in_default
+returns-in_default g c =
     let i = c.loop-taken.invariant in
     let b = c.in-Some.bit in
     let a = c.in-Some-hear.answer in
@@ -62,9 +62,9 @@ returns-in-default g c =
         bits = i.0 ++ b ∷ [];
         lost = lost_more (g.S.BitSource.waiting c.args.source.now) i.0 (g.S.BitSource.waiting c.loop-taken.source) (g.S.BitSource.waiting c.take.new.self) b i.1 c.in-Some.ensures;
         counts = omega arith;
-        told = answered (HasHeard c.args.self.now) (HasHeard c.loop-taken.self) (HasHeard c.hear.new.self) i.0 b i.5 a c.hear.new.self.store.octets c.loop-taken.buffer heard.verdict c.in-default.not-Frame
+        told = answered (HasHeard c.args.self.now) (HasHeard c.loop-taken.self) (HasHeard c.hear.new.self) i.0 b i.5 a c.hear.new.self.store.octets c.loop-taken.buffer heard.verdict c.in_default.not-Frame
             (λ h was. let now = heard.told h was in (now.heard, now.due));
         stops = stops_other a c.args.allowance (c.loop-taken.taken + 1) (g.S.BitSource.waiting c.take.new.self) heard.verdict (omega arith) (omega arith);
-        fills = subst (λ l. Fills a c.args.buffer.now l) (sym i.4) (fills_other a c.args.buffer.now heard.verdict c.in-default.not-Frame);
+        fills = subst (λ l. Fills a c.args.buffer.now l) (sym i.4) (fills_other a c.args.buffer.now heard.verdict c.in_default.not-Frame);
       };
     }

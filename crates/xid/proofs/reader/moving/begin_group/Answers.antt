@@ -44,8 +44,8 @@ returns-then-length-rest c =
 pub returns-in-empty : goal.returns-in-empty
 returns-in-empty c = record { begun = λ b stands whole. nil_from_length c.args.at.rest.now (omega (arith, ltb-true)); shorter = tt }
 
-pub returns-in-default : goal.returns-in-default
-returns-in-default c =
+pub returns-in_default : goal.returns-in_default
+returns-in_default c =
     record {
       begun = λ b stands whole.
           first_short b c.args.at.rest.now c.saturating_sub-place.result

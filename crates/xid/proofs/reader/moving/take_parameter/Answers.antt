@@ -41,8 +41,8 @@ returns-in_err-parameter c =
       shorter = tt;
     })
 
-pub returns-in-default : goal.returns-in-default
-returns-in-default c =
+pub returns-in_default : goal.returns-in_default
+returns-in_default c =
     record {
       taken = λ b stands some.
           first_parameter_beyond b c.args.at.rest.now c.saturating_sub-place.result
