@@ -19,7 +19,7 @@ pub fn reply<S: BitSink>(
     from_ground: bool,
     information: &[u8],
 ) -> Result<usize, Unpaid>
-    ensures { Pays debt (answer debt from_ground information.now) (held sink.old) (space sink.old) result (held sink.new) (space sink.new) }
+    ensures { Pays debt (answer debt from_ground information.now) (S.held sink.old) (S.space sink.old) result (S.held sink.new) (S.space sink.new) }
 {
     let frame = Frame {
         destination: debt.to,
@@ -49,7 +49,7 @@ pub fn decline<S: BitSink>(
     cause: u8,
     delay: u16,
 ) -> Result<usize, Unpaid>
-    ensures { Pays debt (answer debt from_ground (declined cause delay)) (held sink.old) (space sink.old) result (held sink.new) (space sink.new) }
+    ensures { Pays debt (answer debt from_ground (declined cause delay)) (S.held sink.old) (S.space sink.old) result (S.held sink.new) (S.space sink.new) }
 {
     let information = [
         0x82,

@@ -42,7 +42,7 @@ pub fn write_list<S: BitSink>(
     orders: &[Order],
     buffer: &[u8],
 ) -> Result<usize, ListError>
-    ensures { ListWritten orders.now buffer.now (held sink.old) (space sink.old) result (held sink.new) (space sink.new) }
+    ensures { ListWritten orders.now buffer.now (S.held sink.old) (S.space sink.old) result (S.held sink.new) (S.space sink.new) }
 {
     let before = sink.count();
     for (index, order) in orders.iter().enumerate() {
@@ -65,7 +65,7 @@ fn write_order<S: BitSink>(
     order: &Order,
     buffer: &[u8],
 ) -> Result<usize, ListError>
-    ensures { OrderWritten index order.now buffer.now (held sink.old) (space sink.old) result (held sink.new) (space sink.new) }
+    ensures { OrderWritten index order.now buffer.now (S.held sink.old) (S.space sink.old) result (S.held sink.new) (S.space sink.new) }
 {
     if order.place > buffer.len() || order.length > buffer.len() - order.place {
         return Err(ListError::Outside { frame: index });

@@ -12,9 +12,9 @@ use fcs::Register;
 
 // Both flags and what stands between them; the room was tested before.
 pub(crate) fn put_frame<S: BitSink>(sink: &mut S, header: &[u8], information: &[u8]) -> usize
-    requires { length (frame_bits (header.now ++ information.now)) ≤ space sink.old }
+    requires { length (frame_bits (header.now ++ information.now)) ≤ S.space sink.old }
     ensures octets { AllByRecursion (λ o. o < 256) information.now }
-    ensures put { Appended (frame_bits (header.now ++ information.now)) (held sink.old) (space sink.old) result (held sink.new) (space sink.new) }
+    ensures put { Appended (frame_bits (header.now ++ information.now)) (S.held sink.old) (S.space sink.old) result (S.held sink.new) (S.space sink.new) }
 {
     let before = sink.count();
     put_flag(sink);
@@ -29,8 +29,8 @@ pub(crate) fn put_frame<S: BitSink>(sink: &mut S, header: &[u8], information: &[
 }
 
 fn put_flag<S: BitSink>(sink: &mut S)
-    requires { 8 ≤ space sink.old }
-    ensures { Appended flag (held sink.old) (space sink.old) 8 (held sink.new) (space sink.new) }
+    requires { 8 ≤ S.space sink.old }
+    ensures { Appended flag (S.held sink.old) (S.space sink.old) 8 (S.held sink.new) (S.space sink.new) }
 {
     let _ = sink.put(false);
     for _ in 0..6u8 {
@@ -41,8 +41,8 @@ fn put_flag<S: BitSink>(sink: &mut S)
 
 // Octets behind so many ones; answers the ones that they end in.
 fn put_octets<S: BitSink>(sink: &mut S, octets: &[u8], before: u8, register: &mut Register) -> u8
-    requires { (before ≤ 4) × (length (stuffing (4 - before) (sent octets.now)) ≤ space sink.old) }
-    ensures put { StuffedPut before (sent octets.now) (held sink.old) (space sink.old) result (held sink.new) (space sink.new) }
+    requires { (before ≤ 4) × (length (stuffing (4 - before) (sent octets.now)) ≤ S.space sink.old) }
+    ensures put { StuffedPut before (sent octets.now) (S.held sink.old) (S.space sink.old) result (S.held sink.new) (S.space sink.new) }
     ensures moved { register.new.value ≡ after register.old.value (sent octets.now) }
 {
     let mut ones = before;
@@ -55,8 +55,8 @@ fn put_octets<S: BitSink>(sink: &mut S, octets: &[u8], before: u8, register: &mu
 
 // An octet's eight bits, the lowest first.
 fn put_octet<S: BitSink>(sink: &mut S, octet: u8, before: u8) -> u8
-    requires { (before ≤ 4) × (length (stuffing (4 - before) (low 8 octet)) ≤ space sink.old) }
-    ensures { StuffedPut before (low 8 octet) (held sink.old) (space sink.old) result (held sink.new) (space sink.new) }
+    requires { (before ≤ 4) × (length (stuffing (4 - before) (low 8 octet)) ≤ S.space sink.old) }
+    ensures { StuffedPut before (low 8 octet) (S.held sink.old) (S.space sink.old) result (S.held sink.new) (S.space sink.new) }
 {
     let mut ones = before;
     let mut rest = octet;
@@ -69,8 +69,8 @@ fn put_octet<S: BitSink>(sink: &mut S, octet: u8, before: u8) -> u8
 
 // A bit, and a zero where it is the fifth one in a row.
 fn put_bit<S: BitSink>(sink: &mut S, bit: bool, before: u8) -> u8
-    requires { (before ≤ 4) × (length (stuffing (4 - before) (bit ∷ [])) ≤ space sink.old) }
-    ensures { StuffedPut before (bit ∷ []) (held sink.old) (space sink.old) result (held sink.new) (space sink.new) }
+    requires { (before ≤ 4) × (length (stuffing (4 - before) (bit ∷ [])) ≤ S.space sink.old) }
+    ensures { StuffedPut before (bit ∷ []) (S.held sink.old) (S.space sink.old) result (S.held sink.new) (S.space sink.new) }
 {
     let _ = sink.put(bit);
     if !bit {

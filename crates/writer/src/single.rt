@@ -33,7 +33,7 @@ impl WriteError {
 
 // Puts a frame's bits and answers how many they are.
 pub fn write_frame<S: BitSink>(sink: &mut S, frame: &Frame<'_>) -> Result<usize, WriteError>
-    ensures { Written (content frame.now) (held sink.old) (space sink.old) result (held sink.new) (space sink.new) }
+    ensures { Written (content frame.now) (S.held sink.old) (S.space sink.old) result (S.held sink.new) (S.space sink.new) }
 {
     let header = header_of(*frame)?;
     if frame.information.len() > MOST_INFORMATION {

@@ -11,7 +11,7 @@ loop-index-init c = so_far_none c.args.items.now c.args.values.now (omega arith)
 
 pub returns-in_err-check_item : goal.returns-in_err-check_item
 returns-in_err-check_item c =
-    let p = err_from_is_err_and c.from-residual.result c.from-residual.ensures.1 in
+    let p = err_from_is_err_and c.from_residual.result c.from_residual.ensures.1 in
     rw (p.1, p.2) (refused c.args.items.now c.args.values.now c.loop-index.index c.loop-index.totals c.loop-index-test.true c.loop-index.invariant
     c.in_err-check_item.field-0.0 c.in_err-check_item.ensures)
 

@@ -8,7 +8,7 @@ use Rattle.composer.proofs.compose.Goals.{Joined-totals-gt0, then-totals-gt0, el
 
 pub returns-in_err-totals : goal.returns-in_err-totals
 returns-in_err-totals c =
-    let p = err_from_is_err_and c.from-residual.result c.from-residual.ensures.1 in
+    let p = err_from_is_err_and c.from_residual.result c.from_residual.ensures.1 in
     rw (p.1, p.2) (c.in_err-totals.ensures (length c.args.out.now), refl)
 
 pub returns-then-length-gt-MOST_OCTETS : goal.returns-then-length-gt-MOST_OCTETS

@@ -12,12 +12,12 @@ loop-call-init g c = rw c.new-outcomes.ensures.items (going_new _ _ c.new-receiv
 
 pub returns-in_err-outcome : goal.returns-in_err-outcome
 returns-in_err-outcome g c =
-    let p = err_from_is_err_and c.from-residual.result c.from-residual.ensures.1 in
+    let p = err_from_is_err_and c.from_residual.result c.from_residual.ensures.1 in
     rw p.1 (simp c.in_err-outcome.ensures.1 (taken_so_far c.loop-call.invariant))
 
 pub returns-in_err-push : goal.returns-in_err-push
 returns-in_err-push g c =
-    let p = err_from_is_err_and c.from-residual-in_err-push.result c.from-residual-in_err-push.ensures.1 in
+    let p = err_from_is_err_and c.from_residual-in_err-push.result c.from_residual-in_err-push.ensures.1 in
     rw p.1 (taken_so_far (going_at c.loop-call.receiver c.perform.new.receiver (g.S.BitSource.waiting c.loop-call.source) (g.S.BitSource.waiting c.perform.new.source)
     c.args.calls.now c.loop-call.call-index (Listen 0 0) (vec_items c.loop-call.outcomes) c.in_ok-outcome.outcome c.loop-call-test.true c.in_ok-outcome.ensures c.loop-call.invariant))
 

@@ -100,6 +100,6 @@ overflow_sub-result g c = let l = appended_long (whole g c) in omega (arith, c.c
 pub returns : goal.returns
 returns g c =
     record {
-      octets = All-from_get_or (λ o. o < 256) c.args.information.now 0 (λ i _. omega (arith, c.type-inv.information i));
+      octets = All-from_get_or (λ o. o < 256) c.args.information.now 0 (λ i _. omega (arith, c.type_inv.information i));
       put = whole g c;
     }

@@ -3,8 +3,8 @@ use Rattle.cutting.specs.Cutting.{flag, ones}
 use Rattle.receiver.proofs.Turns.{begins}
 use Rattle.receiver.proofs.record.Receiver.begin.Goals as goal
 
-pub invariant-of-self : goal.invariant-of-self
-invariant-of-self c = (omega arith, (∣ (flag, begins (false ∷ ones 6) c.clear.new.self c.clear.ensures.empty ([], refl)) ∣₁, tt))
+pub invariant_of-self : goal.invariant_of-self
+invariant_of-self c = (omega arith, (∣ (flag, begins (false ∷ ones 6) c.clear.new.self c.clear.ensures.empty ([], refl)) ∣₁, tt))
 
 pub returns : goal.returns
 returns c = record { opened = λ h behind. begins h c.clear.new.self c.clear.ensures.empty behind; same = c.clear.ensures.same }

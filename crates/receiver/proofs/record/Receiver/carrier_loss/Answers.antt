@@ -2,8 +2,8 @@ use Rattle.std.proofs.Common.{arith}
 use Rattle.receiver.proofs.Turns.{fresh, still_idle}
 use Rattle.receiver.proofs.record.Receiver.carrier_loss.Goals as goal
 
-pub invariant-of-self : goal.invariant-of-self
-invariant-of-self c = (omega arith, (still_idle c.args.self.now.ones c.args.self.now.left_out c.args.self.now.store, tt))
+pub invariant_of-self : goal.invariant_of-self
+invariant_of-self c = (omega arith, (still_idle c.args.self.now.ones c.args.self.now.left_out c.args.self.now.store, tt))
 
 pub returns : goal.returns
 returns c = fresh c.args.self.now.ones c.args.self.now.left_out c.args.self.now.store

@@ -2,8 +2,8 @@ use Rattle.std.proofs.Common.{false, arith}
 use Rattle.receiver.proofs.Turns.{fresh, still_idle}
 use Rattle.receiver.proofs.record.Receiver.new.Goals as goal
 
-pub invariant-of-result : goal.invariant-of-result
-invariant-of-result c = (omega arith, (still_idle 0 false c.new.result, tt))
+pub invariant_of-result : goal.invariant_of-result
+invariant_of-result c = (omega arith, (still_idle 0 false c.new.result, tt))
 
 pub returns : goal.returns
 returns c = fresh 0 false c.new.result

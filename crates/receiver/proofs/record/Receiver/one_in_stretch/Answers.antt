@@ -2,8 +2,8 @@ use Rattle.std.proofs.Common.{true, refl, arith}
 use Rattle.receiver.proofs.Turns.{hears, still_idle, still_heard, stretch_break_empty, stretch_break, stretch_six, stretch-one}
 use Rattle.receiver.proofs.record.Receiver.one_in_stretch.Goals as goal
 
-pub invariant-of-self : goal.invariant-of-self
-invariant-of-self c = (omega (arith, c.args.self.now.few), (still_idle c.args.self.now.ones c.args.self.now.left_out c.args.self.now.store, tt))
+pub invariant_of-self : goal.invariant_of-self
+invariant_of-self c = (omega (arith, c.args.self.now.few), (still_idle c.args.self.now.ones c.args.self.now.left_out c.args.self.now.store, tt))
 
 pub returns-then-count-lt6 : goal.returns-then-count-lt6
 returns-then-count-lt6 c = record { verdict = tt; told = λ h was. hears _ (stretch_break_empty c.args.self.now true h was c.requires refl c.if-self-eq6.true (omega arith)) }
@@ -11,14 +11,14 @@ returns-then-count-lt6 c = record { verdict = tt; told = λ h was. hears _ (stre
 pub returns-else-count-lt6 : goal.returns-else-count-lt6
 returns-else-count-lt6 c = record { verdict = tt; told = λ h was. hears _ (stretch_break c.args.self.now true h was c.requires refl c.if-self-eq6.true (omega arith)) }
 
-pub invariant-of-self-then-self-eq5 : goal.invariant-of-self-then-self-eq5
-invariant-of-self-then-self-eq5 c = (omega arith, (still_heard c.args.self.now true (λ h was. stretch_six c.args.self.now true h was c.requires refl c.if-self-eq5.true), tt))
+pub invariant_of-self-then-self-eq5 : goal.invariant_of-self-then-self-eq5
+invariant_of-self-then-self-eq5 c = (omega arith, (still_heard c.args.self.now true (λ h was. stretch_six c.args.self.now true h was c.requires refl c.if-self-eq5.true), tt))
 
 pub returns-then-self-eq5 : goal.returns-then-self-eq5
 returns-then-self-eq5 c = record { verdict = tt; told = λ h was. hears _ (stretch_six c.args.self.now true h was c.requires refl c.if-self-eq5.true) }
 
-pub invariant-of-self-else-self-eq5 : goal.invariant-of-self-else-self-eq5
-invariant-of-self-else-self-eq5 c =
+pub invariant_of-self-else-self-eq5 : goal.invariant_of-self-else-self-eq5
+invariant_of-self-else-self-eq5 c =
     (omega (arith, c.args.self.now.few), (still_heard c.args.self.now true (λ h was. stretch-one c.args.self.now true h was c.push.new.self (omega (arith, c.args.self.now.few)) c.push.ensures c.requires refl), tt))
 
 pub returns-else-self-eq5 : goal.returns-else-self-eq5

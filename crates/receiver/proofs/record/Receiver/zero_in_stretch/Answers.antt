@@ -3,14 +3,14 @@ use Rattle.receiver.specs.Hearing.{DueNow, verdict_if_any}
 use Rattle.receiver.proofs.Turns.{hears, still_heard, inside_six, stretch_left-out, stretch-zero}
 use Rattle.receiver.proofs.record.Receiver.zero_in_stretch.Goals as goal
 
-pub invariant-of-self : goal.invariant-of-self
-invariant-of-self c = (omega arith, (still_heard c.args.self.now false (λ h was. stretch_left-out c.args.self.now false h was c.requires refl c.if-self-eq5.true), tt))
+pub invariant_of-self : goal.invariant_of-self
+invariant_of-self c = (omega arith, (still_heard c.args.self.now false (λ h was. stretch_left-out c.args.self.now false h was c.requires refl c.if-self-eq5.true), tt))
 
 pub returns-then-self-eq5 : goal.returns-then-self-eq5
 returns-then-self-eq5 c = record { verdict = tt; told = λ h was. hears _ (stretch_left-out c.args.self.now false h was c.requires refl c.if-self-eq5.true) }
 
-pub invariant-of-self-else-self-eq5 : goal.invariant-of-self-else-self-eq5
-invariant-of-self-else-self-eq5 c =
+pub invariant_of-self-else-self-eq5 : goal.invariant_of-self-else-self-eq5
+invariant_of-self-else-self-eq5 c =
     (omega arith, (still_heard c.args.self.now false (λ h was. stretch-zero c.args.self.now false h was c.push.new.self (omega (arith, c.args.self.now.few)) c.push.ensures c.requires refl), tt))
 
 pub returns-else-self-eq5 : goal.returns-else-self-eq5

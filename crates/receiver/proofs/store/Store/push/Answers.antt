@@ -3,8 +3,8 @@ use Rattle.std.proofs.lemmas.List.{length_push}
 use Rattle.receiver.proofs.Packs.{wider, counted_more, packed_part, packed_full, packed_past}
 use Rattle.receiver.proofs.store.Store.push.Goals as goal
 
-pub invariant-of-self-then-self : goal.invariant-of-self-then-self
-invariant-of-self-then-self c =
+pub invariant_of-self-then-self : goal.invariant_of-self-then-self
+invariant_of-self-then-self c =
     (omega arith, (wider c.args.self.now.count c.args.self.now.octet c.args.self.now.partial (omega arith) (omega arith), tt))
 
 pub returns-then-place-eq7 : goal.returns-then-place-eq7

@@ -10,7 +10,7 @@ use Rattle.xid.proofs.reader.Reader.ahead.Goals.{then-at-field+in_ok-at, else-at
 
 pub returns-in_err-at : goal.returns-in_err-at
 returns-in_err-at c =
-    let p = err_from_is_err_and c.from-residual.result c.from-residual.ensures.1 in
+    let p = err_from_is_err_and c.from_residual.result c.from_residual.ensures.1 in
     let r = c.args.self.now in
     rw (p.1, p.2)
     (record { ahead = λ b stands. stops-new r.field.now r.cursor b stands (omega arith) c.in_err-at.field-0.0 c.in_err-at.ensures; shorter = tt })
@@ -29,7 +29,7 @@ loop-at-init c =
 
 pub returns-in_err-begin_group : goal.returns-in_err-begin_group
 returns-in_err-begin_group c =
-    let p = err_from_is_err_and c.from-residual-in_err-begin_group.result c.from-residual-in_err-begin_group.ensures.1 in
+    let p = err_from_is_err_and c.from_residual-in_err-begin_group.result c.from_residual-in_err-begin_group.ensures.1 in
     let r = c.args.self.now in
     rw (p.1, p.2)
     (record {
@@ -66,7 +66,7 @@ loop-at-preserved c =
 
 pub returns-in_err-taken : goal.returns-in_err-taken
 returns-in_err-taken c =
-    let p = err_from_is_err_and c.from-residual-in_err-taken.result c.from-residual-in_err-taken.ensures.1 in
+    let p = err_from_is_err_and c.from_residual-in_err-taken.result c.from_residual-in_err-taken.ensures.1 in
     let r = c.args.self.now in
     rw (p.1, p.2)
     (record {

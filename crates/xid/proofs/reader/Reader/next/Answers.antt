@@ -8,11 +8,11 @@ use Rattle.xid.proofs.reader.Reader.next.Goals as goal
 
 pub returns-in_err-ahead : goal.returns-in_err-ahead
 returns-in_err-ahead c =
-    let p = err_from_is_err_and c.from-residual.result c.from-residual.ensures.1 in
+    let p = err_from_is_err_and c.from_residual.result c.from_residual.ensures.1 in
     rw (p.1, p.2) (next_fault c.args.self.now c.in_err-ahead.field-0.0 c.in_err-ahead.ensures.ahead)
 
-pub invariant-of-self : goal.invariant-of-self
-invariant-of-self c =
+pub invariant_of-self : goal.invariant_of-self
+invariant_of-self c =
     let r = c.args.self.now in (
       ∥∥₁_map r.stands
           (λ was.

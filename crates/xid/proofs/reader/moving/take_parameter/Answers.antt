@@ -24,7 +24,7 @@ returns-then-at-length c =
 
 pub returns-in_err-parameter : goal.returns-in_err-parameter
 returns-in_err-parameter c =
-    let p = err_from_is_err_and c.from-residual.result c.from-residual.ensures.1 in
+    let p = err_from_is_err_and c.from_residual.result c.from_residual.ensures.1 in
     let rest = c.args.at.rest.now in
     let n = get_or rest 1 0 in
     let behind = length-drop 2 rest in
