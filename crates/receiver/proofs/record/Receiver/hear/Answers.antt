@@ -7,19 +7,19 @@ pub returns-in-Idle-true : goal.returns-in-Idle-true
 returns-in-Idle-true c = record { verdict = tt; told = λ h was. hears _ (idle_one c.args.self.now c.args.bit h was c.in-Idle-true.is-0 c.in-Idle-true.is-1) }
 
 pub invariant_of-self : goal.invariant_of-self
-invariant_of-self c = (omega (arith, c.args.self.now.few), (still_heard c.args.self.now c.args.bit (λ h was. idle_zero c.args.self.now c.args.bit h was c.in-Idle-false.is-0 c.in-Idle-false.is-1), tt))
+invariant_of-self c = record { few = omega (arith, c.args.self.now.few); heard = still_heard c.args.self.now c.args.bit (λ h was. idle_zero c.args.self.now c.args.bit h was c.in-Idle-false.is-0 c.in-Idle-false.is-1) }
 
 pub returns-in-Idle-false : goal.returns-in-Idle-false
 returns-in-Idle-false c = record { verdict = tt; told = λ h was. hears _ (idle_zero c.args.self.now c.args.bit h was c.in-Idle-false.is-0 c.in-Idle-false.is-1) }
 
 pub invariant_of-self-then-self-eq6 : goal.invariant_of-self-then-self-eq6
-invariant_of-self-then-self-eq6 c = (omega (arith, c.args.self.now.few), (still_idle c.args.self.now.ones c.args.self.now.left_out c.args.self.now.store, tt))
+invariant_of-self-then-self-eq6 c = record { few = omega (arith, c.args.self.now.few); heard = still_idle c.args.self.now.ones c.args.self.now.left_out c.args.self.now.store }
 
 pub returns-then-self-eq6 : goal.returns-then-self-eq6
 returns-then-self-eq6 c = record { verdict = tt; told = λ h was. hears _ (hunting_break c.args.self.now c.args.bit h was c.in-Hunting-true.is-0 c.in-Hunting-true.is-1 c.if-self-eq6.true) }
 
 pub invariant_of-self-else-self-eq6 : goal.invariant_of-self-else-self-eq6
-invariant_of-self-else-self-eq6 c = (omega (arith, c.args.self.now.few), (still_heard c.args.self.now c.args.bit (λ h was. hunting_one c.args.self.now c.args.bit h was c.in-Hunting-true.is-0 c.in-Hunting-true.is-1 (omega (arith, c.args.self.now.few))), tt))
+invariant_of-self-else-self-eq6 c = record { few = omega (arith, c.args.self.now.few); heard = still_heard c.args.self.now c.args.bit (λ h was. hunting_one c.args.self.now c.args.bit h was c.in-Hunting-true.is-0 c.in-Hunting-true.is-1 (omega (arith, c.args.self.now.few))) }
 
 pub returns-else-self-eq6 : goal.returns-else-self-eq6
 returns-else-self-eq6 c = record { verdict = tt; told = λ h was. hears _ (hunting_one c.args.self.now c.args.bit h was c.in-Hunting-true.is-0 c.in-Hunting-true.is-1 (omega (arith, c.args.self.now.few))) }
@@ -36,7 +36,7 @@ returns-then-self-eq6-2 c = record {
 }
 
 pub invariant_of-self-else-self-eq6-2 : goal.invariant_of-self-else-self-eq6-2
-invariant_of-self-else-self-eq6-2 c = (omega (arith, c.args.self.now.few), (still_heard c.args.self.now c.args.bit (λ h was. hunting_zero c.args.self.now c.args.bit h was c.in-Hunting-false.is-0 c.in-Hunting-false.is-1 (omega (arith, c.args.self.now.few))), tt))
+invariant_of-self-else-self-eq6-2 c = record { few = omega (arith, c.args.self.now.few); heard = still_heard c.args.self.now c.args.bit (λ h was. hunting_zero c.args.self.now c.args.bit h was c.in-Hunting-false.is-0 c.in-Hunting-false.is-1 (omega (arith, c.args.self.now.few))) }
 
 pub returns-else-self-eq6-2 : goal.returns-else-self-eq6-2
 returns-else-self-eq6-2 c = record { verdict = tt; told = λ h was. hears _ (hunting_zero c.args.self.now c.args.bit h was c.in-Hunting-false.is-0 c.in-Hunting-false.is-1 (omega (arith, c.args.self.now.few))) }

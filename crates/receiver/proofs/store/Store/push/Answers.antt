@@ -5,7 +5,7 @@ use Rattle.receiver.proofs.store.Store.push.Goals as goal
 
 pub invariant_of-self-then-self : goal.invariant_of-self-then-self
 invariant_of-self-then-self c =
-    (omega arith, (wider c.args.self.now.count c.args.self.now.octet c.args.self.now.partial (omega arith) (omega arith), tt))
+    record { bound = omega arith; partial = wider c.args.self.now.count c.args.self.now.octet c.args.self.now.partial (omega arith) (omega arith) }
 
 pub returns-then-place-eq7 : goal.returns-then-place-eq7
 returns-then-place-eq7 c = λ r was.

@@ -4,4 +4,4 @@ use Rattle.xid.specs.Fields.{nothing}
 use Rattle.xid.proofs.reader.Reader.new.Goals as goal
 
 pub invariant_of-result : goal.invariant_of-result
-invariant_of-result c = (∣ (nothing, record { begins = record { octets = refl; formed = tt; within = omega arith }; left = refl; group = refl }) ∣₁, tt)
+invariant_of-result c = record { stands = ∣ (nothing, record { begins = record { octets = refl; formed = tt; within = omega arith }; left = refl; group = refl }) ∣₁ }

@@ -13,13 +13,14 @@ returns-in_err-ahead c =
 
 pub invariant_of-self : goal.invariant_of-self
 invariant_of-self c =
-    let r = c.args.self.now in (
-      ∥∥₁_map r.stands
+    let r = c.args.self.now in
+    record {
+      stands =
+          ∥∥₁_map r.stands
           (λ was.
           let on = subst (λ o. Ahead r.field.now was.0 (Ok o)) c.in-Some.is (c.in_ok-ahead.ensures.ahead was.0 was.1) in
-          (on.0, on.1.0)),
-      tt,
-    )
+          (on.0, on.1.0));
+    }
 
 pub returns-in-None : goal.returns-in-None
 returns-in-None c =

@@ -22,8 +22,8 @@ returns-then-at-length c =
       shorter = tt;
     }
 
-pub returns-in_err-parameter : goal.returns-in_err-parameter
-returns-in_err-parameter c =
+pub returns-in_err-parameter-in-len2-up : goal.returns-in_err-parameter-in-len2-up
+returns-in_err-parameter-in-len2-up c =
     let p = err_from_is_err_and c.from_residual.result c.from_residual.ensures.1 in
     let rest = c.args.at.rest.now in
     let n = get_or rest 1 0 in
@@ -37,7 +37,7 @@ returns-in_err-parameter c =
           (parameter_here c.args.field.now c.args.at b stands some c.saturating_sub-place.result c.saturating_sub-place.ensures)
           (omega arith) c.unwrap_or-group.result (group_known c.args.field.now c.args.at b stands some c.unwrap_or-group.result c.unwrap_or-group.ensures)
           (take n (take (length rest - 2) (drop 2 rest))) (value_is rest n) (value-length rest n long)
-          c.in_err-parameter.field-0.0 c.in_err-parameter.ensures;
+          c.in_err-parameter-in-len2-up.field-0.0 c.in_err-parameter-in-len2-up.ensures;
       shorter = tt;
     })
 
@@ -51,10 +51,10 @@ returns-in_default c =
       shorter = tt;
     }
 
-pub returns-in_ok-parameter : goal.returns-in_ok-parameter
-returns-in_ok-parameter c =
-    let h = c.in_ok-parameter.ensures in
-    let p = shown c.in_ok-parameter.parameter in
+pub returns-in_ok-parameter-in-len2-up : goal.returns-in_ok-parameter-in-len2-up
+returns-in_ok-parameter-in-len2-up c =
+    let h = c.in_ok-parameter-in-len2-up.ensures in
+    let p = shown c.in_ok-parameter-in-len2-up.parameter in
     let rest = c.args.at.rest.now in
     let n = get_or rest 1 0 in
     let behind = length-drop 2 rest in
@@ -73,7 +73,7 @@ returns-in_ok-parameter c =
           left = omega arith;
           group = stands.group;
         },
-        subst (λ q. Records (shape q.group q.identifier) q.value c.in_ok-parameter.parameter.record) (sym h.0) h.2,
+        subst (λ q. Records (shape q.group q.identifier) q.value c.in_ok-parameter-in-len2-up.parameter.record) (sym h.0) h.2,
       );
       shorter = omega (arith, ap length (behind_is rest n), length-drop n (drop 2 rest));
     }
