@@ -2,7 +2,7 @@ use Rattle.std.proofs.Common.{[], ◌∷◌, vec_items, sym, refl}
 use Rattle.std.proofs.lemmas.List.{take_all}
 use Rattle.std.proofs.lemmas.Slice.{pushed}
 use Rattle.path.proofs.Arrivals.{OpenedAs, opened_aborted, opened_refused, opened_frame, opened_more}
-use Rattle.path.proofs.carrying.open_all.Goals.{in-Aborted, in-Refused, in-Frame+in_ok-arrived}
+use Rattle.path.proofs.carrying.open_all.Goals.{in-Aborted, in-Refused, in-Frame+in_ok-arrived-in-Frame}
 use Rattle.path.proofs.carrying.open_all.Goals as goal
 
 opens : (c : goal.In_ok-push) → OpenedAs c.match-event.arrived c.event-item.result
@@ -10,8 +10,8 @@ opens c =
     elim c.match-event.branch [
       | in-Aborted w ↦ opened_aborted w.in-Aborted.place w.arrived-is w.in-Aborted.is
       | in-Refused w ↦ opened_refused w.in-Refused.place w.in-Refused.fault w.arrived-is w.in-Refused.is
-      | in-Frame+in_ok-arrived w ↦
-          opened_frame w.in_ok-arrived.arrived w.in-Frame.place w.in-Frame.octets w.deref.result.now w.arrived-is w.in-Frame.is w.deref.ensures.value w.in_ok-arrived.ensures
+      | in-Frame+in_ok-arrived-in-Frame w ↦
+          opened_frame w.in_ok-arrived-in-Frame.arrived w.in-Frame.place w.in-Frame.octets w.deref.result.now w.arrived-is w.in-Frame.is w.deref.ensures.value w.in_ok-arrived-in-Frame.ensures
     ]
 
 pub loop-event-preserved : goal.loop-event-preserved
