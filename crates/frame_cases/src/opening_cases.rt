@@ -64,7 +64,7 @@ mod tests {
             Ok(frame) => {
                 assert!(rt; frame.from_ground && !frame.response);
                 assert!(rt; frame.destination.number() == 1 && frame.source.number() == 0x400001);
-                assert!(rt; frame.information == &[0x11, 0x22, 0x33]);
+                assert!(rt; frame.information == [0x11, 0x22, 0x33].as_slice());
                 match frame.header() {
                     Ok(header) => {
                         assert!(rt; header[..] == UI[..9]);

@@ -102,7 +102,7 @@ mod tests {
             Err(_) => return Err(Fail::new("no room")),
         }
         let memory = sink.finish();
-        assert!(rt; &*memory == &[0x7E, 0x3C, 0xF1]);
+        assert!(rt; &*memory == [0x7E, 0x3C, 0xF1].as_slice());
         Ok(())
     }
 }

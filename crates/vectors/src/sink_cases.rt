@@ -86,7 +86,7 @@ mod tests {
             Err(e) => assert_eq!(rt; e.number(), 40),
         }
         let memory = sink.finish();
-        assert!(rt; &*memory == &[0x3F, 0x00, 0xA0]);
+        assert!(rt; &*memory == [0x3F, 0x00, 0xA0].as_slice());
         Ok(())
     }
 

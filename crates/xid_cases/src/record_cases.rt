@@ -108,7 +108,7 @@ mod tests {
     fn public_values(rt: HostRuntime) -> Result<(), Fail> {
         match read_value(Group::Public, 0x00, &[0x57]) {
             Some(Record::Unlaid { octets }) => {
-                assert!(rt; octets == &[0x57]);
+                assert!(rt; octets == [0x57].as_slice());
                 Ok(())
             },
             _ => Err(Fail::new("not as octets")),
