@@ -105,7 +105,7 @@ mod tests {
         assert_eq!(rt; sink.room(), 3);
         assert!(rt; sink.put(true).is_ok());
         let memory = sink.finish();
-        assert!(rt; &*memory == b"111d");
+        assert!(rt; &*memory == b"111d".as_slice());
         Ok(())
     }
 }
