@@ -1,5 +1,5 @@
 -- A number's lowest bits: taken apart and put together.
-use Rattle.std.proofs.Common.{◌≡◌, ℕ, zero, suc, ◌+◌, ◌*◌, ◌/◌, ◌%◌, ◌^◌, ◌<◌, ◌≤◌, Bool, true, false, eqb, ◌⊎◌, List, [], ◌∷◌, ◌++◌, take, sym, refl, ap, ◌∙◌, inl, inr, pow-suc, arith}
+use Rattle.std.proofs.Common.{◌≡◌, ℕ, zero, suc, ◌+◌, ◌*◌, ◌/◌, ◌%◌, ◌^◌, ◌<◌, ◌≤◌, eqb, ◌⊎◌, [], ◌∷◌, ◌++◌, take, sym, refl, ap, ◌∙◌, inl, inr, pow-suc, arith}
 use mathlib.Core.Bool.{xor}
 use lib.Bits.{bit_xor, xor_mod, block_half, block_odd}
 use Rattle.std.proofs.lemmas.Nat.{div-add-mod'}

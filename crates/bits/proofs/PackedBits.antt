@@ -1,8 +1,8 @@
 -- Bits taken from packed octets and put into them.
-use Rattle.std.proofs.Common.{◌≡◌, ℕ, zero, suc, ◌+◌, ◌-◌, ◌*◌, ◌/◌, ◌%◌, ◌^◌, ◌<◌, ◌≤◌, Bool, true, false, cond, eqb, List, [], ◌∷◌, ◌++◌, length, get_or, take, drop, set, sym, refl, ap, ◌∙◌, arith, length-take}
+use Rattle.std.proofs.Common.{◌≡◌, ℕ, ◌+◌, ◌*◌, ◌/◌, ◌%◌, ◌^◌, ◌<◌, ◌≤◌, Bool, false, eqb, List, [], ◌∷◌, ◌++◌, length, get_or, take, drop, set, sym, ap, ◌∙◌, arith, length-take}
 use lib.Bits.{bit_and, and_mask}
 use Rattle.std.proofs.lemmas.List.{drop_more, drop_all, get_or-take, length-take-le, take_more_set}
-use Rattle.bits.specs.Octets.{low, sent}
+use Rattle.bits.specs.Octets.{sent}
 use Rattle.bits.proofs.Sent.{length-sent, low_at, sent_at}
 
 module _ (os : List ℕ) (at end : ℕ) where

@@ -1,5 +1,5 @@
 -- Bits packed into octets: the octets whose bits, as they are sent, are these.
-use Rattle.std.proofs.Common.{◌≡◌, ℕ, zero, suc, ◌+◌, ◌-◌, ◌*◌, ◌/◌, ◌%◌, ◌^◌, ◌<◌, Bool, true, false, cond, eqb, List, [], ◌∷◌, ◌++◌, length, sym, refl, ap, ◌∙◌, mul_assoc, pow-suc, arith, length-append}
+use Rattle.std.proofs.Common.{◌≡◌, ℕ, zero, suc, ◌+◌, ◌-◌, ◌*◌, ◌/◌, ◌%◌, ◌^◌, ◌<◌, Bool, true, false, cond, eqb, List, [], ◌∷◌, ◌++◌, length, sym, refl, ap, ◌∙◌, mul_assoc, pow-suc, arith}
 use Rattle.std.specs.List.{AllByRecursion}
 use Rattle.bits.specs.Octets.{low, value, sent}
 use Rattle.bits.proofs.Sent.{length-low, length-sent}

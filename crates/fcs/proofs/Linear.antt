@@ -1,5 +1,5 @@
 -- The register is linear: registers and bits combined by exclusive or move to the registers' combination.
-use Rattle.std.proofs.Common.{◌≡◌, ℕ, zero, suc, ◌+◌, ◌*◌, ◌/◌, ◌%◌, ◌^◌, ◌<◌, Bool, true, false, cond, eqb, fold, sym, refl, ap, ◌∙◌, pow-suc, arith}
+use Rattle.std.proofs.Common.{◌≡◌, ℕ, zero, suc, ◌*◌, ◌/◌, ◌%◌, ◌^◌, ◌<◌, Bool, true, false, cond, eqb, fold, sym, refl, ap, ◌∙◌, pow-suc, arith}
 use mathlib.Core.Bool.{xor}
 use lib.Bits.{bit_xor, xor_comm, xor_assoc, xor_shr, xor_zero_r, shifted_half, shifted_even}
 use Rattle.bits.specs.Octets.{low}

@@ -1,8 +1,8 @@
 -- The table's rule, tested at all 256 entries at once, and the step by a whole octet that it gives.
-use Rattle.std.proofs.Common.{◌≡◌, ℕ, zero, suc, ◌+◌, ◌*◌, ◌/◌, ◌%◌, ◌^◌, ◌<◌, Bool, true, false, ◌&&◌, T, eqb, List, [], ◌∷◌, length, get_or, sym, refl, ap, ◌∙◌, subst, add-zero, add-suc, mod-eq_of_lt, suc-add, zero-add, arith, eqb→eq}
+use Rattle.std.proofs.Common.{◌≡◌, ℕ, zero, suc, ◌+◌, ◌*◌, ◌/◌, ◌%◌, ◌^◌, ◌<◌, Bool, true, false, ◌&&◌, T, eqb, List, [], ◌∷◌, length, get_or, sym, ap, ◌∙◌, add-zero, add-suc, mod-eq_of_lt, suc-add, zero-add, arith, eqb→eq}
 use lib.Bits.{bit_xor, bit_and, xor_zero_r, xor_self, xor_assoc, xor_shifted, xor_mod, xor_lt, and_mask}
 use Rattle.bits.specs.Octets.{low}
-use Rattle.fcs.specs.Sequence.{moved, after}
+use Rattle.fcs.specs.Sequence.{after}
 use Rattle.fcs.specs.Table.{OctetMoves}
 use Rattle.fcs.proofs.Linear.{after_xor, after_high, after_same}
 

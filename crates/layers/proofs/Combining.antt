@@ -1,5 +1,5 @@
 -- Bits combined with a sequence: one more, some fewer, moved, and undone.
-use Rattle.std.proofs.Common.{◌≡◌, ℕ, zero, suc, ◌+◌, Bool, List, [], ◌∷◌, ◌++◌, length, take, ℤ, pos, negsuc, neg_ℤ, sym, refl, ap, ◌∙◌, add-zero, add-suc}
+use Rattle.std.proofs.Common.{◌≡◌, ℕ, zero, suc, ◌+◌, Bool, List, [], ◌∷◌, ◌++◌, length, take, ℤ, pos, neg_ℤ, sym, refl, ap, ◌∙◌, add-zero, add-suc}
 use mathlib.Core.Bool.{xor}
 use lib.IntN.{suc_ℤ, pred_ℤ, suc-pred, pred-suc}
 use Rattle.layers.specs.Sequence.{backward, moved, sequence, combined}

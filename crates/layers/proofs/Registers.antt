@@ -1,5 +1,5 @@
 -- The register's moves are those of the fifteen bits that it holds.
-use Rattle.std.proofs.Common.{◌≡◌, ℕ, suc, ◌+◌, ◌-◌, ◌*◌, ◌/◌, ◌%◌, ◌^◌, ◌<◌, Bool, true, false, eqb, List, [], ◌∷◌, ◌++◌, length, get_or, drop, sym, refl, ap, ◌∙◌, arith}
+use Rattle.std.proofs.Common.{◌≡◌, ℕ, suc, ◌+◌, ◌-◌, ◌*◌, ◌/◌, ◌%◌, ◌^◌, ◌<◌, Bool, false, eqb, List, [], ◌∷◌, ◌++◌, length, get_or, drop, sym, refl, ap, ◌∙◌, arith}
 use mathlib.Core.Bool.{xor}
 use lib.Bits.{bit_and, bit_or, bit_xor, and_mask, or_shifted, or_shifted_r}
 use Rattle.std.proofs.lemmas.List.{drop_more}

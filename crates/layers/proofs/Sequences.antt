@@ -1,8 +1,8 @@
 -- The sequence moves with its fifteen bits, follows the rule, and is the only one that does.
-use Rattle.std.proofs.Common.{◌≡◌, ℕ, zero, suc, ◌+◌, ◌-◌, ◌<◌, ◌≤◌, Bool, true, false, List, [], ◌∷◌, ◌++◌, length, get_or, take, drop, ℤ, pos, negsuc, ◌+ℤ◌, ◌-ℤ◌, neg_ℤ, sym, refl, ap, ◌∙◌, subst, add-suc, suc-add, zero-add, arith, length-append, length-drop}
+use Rattle.std.proofs.Common.{◌≡◌, ℕ, zero, suc, ◌+◌, ◌<◌, Bool, true, false, List, [], ◌∷◌, ◌++◌, length, get_or, take, drop, ℤ, pos, negsuc, ◌+ℤ◌, ◌-ℤ◌, neg_ℤ, sym, refl, ap, ◌∙◌, subst, add-suc, suc-add, zero-add, arith, length-append, length-drop}
 use mathlib.Core.Bool.{xor}
 use native.Mathlib.Decide.{dec_lt}
-use lib.IntN.{suc_ℤ, pred_ℤ, suc-pred, pred-suc, +ℤ-suc_ℤ, suc_ℤ-+ℤ, pred_ℤ-+ℤ, +ℤ_idr}
+use lib.IntN.{suc_ℤ, pred_ℤ, suc-pred, pred-suc, suc_ℤ-+ℤ, pred_ℤ-+ℤ}
 use Rattle.std.proofs.lemmas.List.{get_or_at, take_at, take_more, take_all, get_or-take, get_or-drop, get_or_append_left, length-take-le}
 use Rattle.layers.specs.Sequence.{Rule, Begins, onward, backward, moved, sequence}
 

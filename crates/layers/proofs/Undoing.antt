@@ -1,8 +1,6 @@
 -- The laws of the layers.
-use Rattle.std.proofs.Common.{◌≡◌, ℕ, zero, suc, ◌+◌, Bool, List, [], ◌∷◌, ◌++◌, length, pos, neg_ℤ, Ok, Err, Result, sym, refl, ap, ◌∙◌, arith}
+use Rattle.std.proofs.Common.{◌≡◌, ℕ, zero, suc, Bool, List, [], ◌∷◌, length, pos, neg_ℤ, Ok, Err, sym, refl, ap, ◌∙◌, arith}
 use Rattle.std.proofs.lemmas.List.{take_at, length_push}
-use Rattle.bits.specs.Sink.{Put, CutBack}
-use Rattle.bits.specs.declared.sink.SinkError.{SinkError}
 use Rattle.layers.specs.Sequence.{onward, moved, sequence, combined}
 use Rattle.layers.specs.Laws.{SourceGivesWhatSinkHolds, PutIsUndone}
 use Rattle.layers.proofs.Sequences.{on_shift, length-onward}

@@ -1,5 +1,5 @@
 -- What the fields of a receiver stand for: the bits heard since the start or the last carrier loss.
-use Rattle.std.specs.Prelude.{◌≡◌, ℕ, suc, ◌-◌, ◌/◌, ◌%◌, ◌≤◌, min, Bool, true, false, ◌↔◌, List, [], ◌∷◌, ◌++◌, length, take, drop}
+use Rattle.std.specs.Prelude.{◌≡◌, ℕ, suc, ◌-◌, ◌/◌, ◌%◌, ◌≤◌, min, Bool, true, false, ◌↔◌, ◌∷◌, ◌++◌, length, take, drop}
 use Rattle.bits.specs.Octets.{low, sent}
 use Rattle.cutting.specs.Cutting.{Bits, part, ones, Open, removed, Applies}
 use Rattle.cutting.specs.declared.Fault.TheVariants.{MissingZero}

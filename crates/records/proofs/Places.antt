@@ -1,5 +1,5 @@
 -- Places and their three octets: each tells the other.
-use Rattle.std.proofs.Common.{◌≡◌, ℕ, suc, ◌+◌, ◌-◌, ◌*◌, ◌/◌, ◌%◌, ◌<◌, ◌≤◌, true, false, [], ◌∷◌, ℤ, pos, negsuc, Some, None, sym, ap, ◌∙◌, subst, arith, w16, SFits, to_z, of_z}
+use Rattle.std.proofs.Common.{◌≡◌, ℕ, suc, ◌+◌, ◌*◌, ◌/◌, ◌%◌, ◌<◌, ◌≤◌, true, false, [], ◌∷◌, ℤ, pos, negsuc, Some, None, sym, ap, ◌∙◌, subst, arith, w16, SFits, to_z, of_z}
 use lib.Bits.{bit_and, and_mask}
 use lib.Signed.{lt_z}
 use Rattle.std.proofs.lemmas.Int.{to_z-of_z}

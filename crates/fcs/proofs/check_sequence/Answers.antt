@@ -1,4 +1,4 @@
-use Rattle.std.proofs.Common.{◌≡◌, get_or, take, sym, ap, ◌∙◌, arith}
+use Rattle.std.proofs.Common.{get_or, take, sym, ap, ◌∙◌, arith}
 use lib.Bits.{bit_xor}
 use Rattle.std.proofs.lemmas.List.{take_all}
 use Rattle.bits.specs.Octets.{low, sent}

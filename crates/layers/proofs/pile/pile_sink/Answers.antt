@@ -1,5 +1,5 @@
-use Rattle.std.proofs.Common.{◌≡◌, [], length, pos, neg_ℤ, ap, ◌∙◌, arith}
-use Rattle.layers.specs.Sequence.{sequence, combined}
+use Rattle.std.proofs.Common.{ap, ◌∙◌, arith}
+use Rattle.layers.specs.Sequence.{sequence}
 use Rattle.layers.proofs.Scrambles.{none_out}
 use Rattle.layers.proofs.pile.pile_sink.Goals as goal
 

@@ -1,4 +1,4 @@
-use Rattle.std.proofs.Common.{sym, ◌∙◌, arith}
+use Rattle.std.proofs.Common.{arith}
 use Rattle.bits.specs.Packed.{packed_count}
 use Rattle.bits.proofs.PackedBits.{held_length}
 use Rattle.bits.proofs.packed_sink.PackedSinkBitSink.count.Goals as goal

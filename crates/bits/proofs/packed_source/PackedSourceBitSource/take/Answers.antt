@@ -1,4 +1,4 @@
-use Rattle.std.proofs.Common.{◌≡◌, ◌/◌, ◌<◌, length, arith}
+use Rattle.std.proofs.Common.{◌/◌, ◌<◌, length, arith}
 use Rattle.bits.proofs.PackedBits.{next_bit, none_left}
 use Rattle.bits.proofs.packed_source.PackedSourceBitSource.take.Goals as goal
 use Rattle.bits.proofs.packed_source.PackedSourceBitSource.take.Goals.{else-at-self-via-then-at-self+else-at-self-2, else-at-self-via-else-at-self}

@@ -1,4 +1,4 @@
-use Rattle.std.proofs.Common.{◌≡◌, suc, ◌+◌, ◌-◌, ◌<◌, ◌≤◌, length, pos, neg_ℤ, sym, refl, ap, ◌∙◌, arith}
+use Rattle.std.proofs.Common.{◌≡◌, suc, ◌+◌, ◌-◌, length, pos, neg_ℤ, sym, refl, ap, ◌∙◌, arith}
 use Rattle.bits.specs.Octets.{low}
 use Rattle.layers.specs.Sequence.{backward, moved, sequence, combined}
 use Rattle.layers.proofs.Combining.{length-combined}
