@@ -52,8 +52,11 @@ def tried(crate, path):
 
 
 def main():
+    paths = sorted(glob.glob('crates/*/turned-down/*.edit'))
+    if not paths:
+        sys.exit('no crates/NAME/turned-down/*.edit to try')
     bad = 0
-    for path in sorted(glob.glob('crates/*/turned-down/*.edit')):
+    for path in paths:
         wrong = tried(path.rsplit('/', 2)[0], path)
         bad += bool(wrong)
         print(f'turned down {path}: {wrong or "as it must be"}', flush=True)
