@@ -1,8 +1,9 @@
 #!/usr/bin/env python3
-# Lists the places in crates/*/src that read like an older language, by point of docs/DESIGN-PASS.md.
+# Lists the places in crates/*/src that read like an older language: docs/DESIGN-PASS.md says what became of them.
 # `python3 tools/places.py [COMMIT]` counts in the working tree, or in a commit; `-v` prints each place.
 import collections, itertools, re, subprocess, sys
 
+POINTS = ['', 'kinds and errors', 'twins', 'loops', 'conversions', 'repeated facts', 'buffers', 'switches']
 verbose = '-v' in sys.argv
 commit = next((a for a in sys.argv[1:] if not a.startswith('-')), None)
 
@@ -43,7 +44,9 @@ def functions():
             m = re.match(r'^( *)(pub(\(crate\))? )?(const )?fn (\w+)', line)
             if m:
                 end = at
-                while end < len(lines) and lines[end] != m.group(1) + '}' and not lines[end].rstrip().endswith('{}') and not lines[end].rstrip().endswith(';'):
+                opened = False
+                while end < len(lines) and lines[end] != m.group(1) + '}' and not lines[end].rstrip().endswith('{}') and (opened or not lines[end].rstrip().endswith(';')):
+                    opened = opened or lines[end].rstrip().endswith('{')
                     end += 1
                 yield name, at + 1, m.group(5), lines[at:end + 1]
 
@@ -53,7 +56,7 @@ def head_of(body):
     return text.split('ensures')[0].split('requires')[0].split(' {')[0]
 
 
-# 1: numbers for kinds and refusals written by cases, kinds taken as numbers, and `?` written by hand
+# kinds and errors: numbers for kinds and refusals written by cases, kinds taken as numbers, and `?` written by hand
 for name, line, fn, body in functions():
     cases = [b for b in body if re.search(r'=> (\(?\w*,? ?)?(0x)?[0-9A-F]+\)?,$', b.strip())]
     if fn in ('number', 'bits', 'octet', 'told') and len(cases) > 0 and any('match' in b for b in body):
@@ -64,7 +67,7 @@ each_line(1, 'a kind taken as a number', r'^\s+pub (kind|group): u8')
 each_line(1, '`?`, `ok_or` or `map_err` written by cases',
           r'None => (return )?(None|Ok\(None\)|Err\()|Err\(\w+\) => (return )?(Err\(|Ok\(Outcome)|^\s+None => Ok\(None\)')
 
-# 2: functions whose text is one once type names, numbers and literals are erased
+# twins: functions whose text is one once type names, numbers and literals are erased
 shapes = collections.defaultdict(list)
 for name, line, fn, body in functions():
     text = '\n'.join(b.strip() for b in body if not re.match(r'\s*(ensures|requires|//)', b))
@@ -78,11 +81,11 @@ for text, group in shapes.items():
         for name, line, fn in group[1:]:
             place(2, 'a function that is one with another but for types, sizes and constants', name, line, f'fn {fn}, as {group[0][0]}:{group[0][1]} fn {group[0][2]}')
 
-# 3: counters and indices by hand
-each_line(3, 'a loop whose counter or index goes by hand', r'for \w+ in (0|\w+)\.\.[^.]|while .*(<|<=|!=|==) ')
+# loops: counters and indices by hand
+each_line(3, 'a loop over an index or up to a count', r'for (?!_ )\w+ in (0|\w+)\.\.[^.]|while .*(<|<=|!=|==) ')
 each_line(3, 'a counter raised by hand', r'\b\w+ \+= [12];|\b(n|bits|ones|listed|allowed|ordinal) = (self\.)?\w+\.(saturating|wrapping)_add\(1\)')
 
-# 4: conversions and comparisons by hand
+# conversions: conversions and comparisons by hand
 each_line(4, 'octets of a number, or a number of octets, by shifts, masks and factors', r'>> (8|16|24)\b|/ 256|% 256|\* 256|& 0xFF\b|\* 0x1_?00')
 each_line(4, 'a conversion named by hand', r'fn (of_\w+|decode)\(')
 each_line(4, 'a comparison of kinds by patterns or by number', r'if let \(\w+::\w+, |== \w+\.octet\(\)|if let Answer::Dry')
@@ -90,7 +93,7 @@ for name, line, fn, body in functions():
     if re.search(r'^\s+(%s): (\w+\.)?(\1)?' % 'destination', '\n'.join(body), re.M) and sum('destination: ' in b or 'from_ground: ' in b for b in body) >= 2 and any(re.search(r'destination: \w+\.destination', b) for b in body):
         place(4, 'a copy field by field', name, line, f'fn {fn}')
 
-# 5: a fact in three or more contracts, and what travels together in three or more heads or structs
+# repeated facts: a fact in three or more contracts, and what travels together in three or more heads or structs
 facts = collections.defaultdict(set)
 for name, line, fn, body in functions():
     for b in body:
@@ -104,7 +107,7 @@ for word, where in facts.items():
             place(5, f'the fact `{word}` in {len(where)} contracts', name, line, f'fn {fn}')
 pairs = collections.defaultdict(list)
 for name, line, fn, body in functions():
-    names = re.findall(r'(\w+): ', head_of(body))
+    names = [n for n in re.findall(r'(\w+): ', head_of(body)) if not re.match(r'[A-Z]$', n)]
     for pair in itertools.combinations(dict.fromkeys(names), 2):
         pairs[pair].append((name, line, fn))
 for pair, where in pairs.items():
@@ -121,7 +124,7 @@ for pair, where in structs.items():
     if len(where) >= 3:
         place(5, 'fields that stand together in three or more structs or cases', where[0].split()[0], 0, f'{pair[0][0]}, {pair[1][0]}: ' + ', '.join(w.split()[1] for w in where))
 
-# 6: a buffer with a length, a count or a place beside it
+# buffers: a buffer with a length, a count or a place beside it
 for name, text in source.items():
     for m in re.finditer(r"struct (\w+)[^{;]*\{([^}]*)\}", text):
         if re.search(r'\[u8|\[bool', m.group(2)) and re.search(r': usize|: u32', m.group(2)):
@@ -130,11 +133,11 @@ for name, text in source.items():
             place(6, 'a place and a length in place of a slice', name, text[:m.start()].count('\n') + 1, m.group(1))
 each_line(6, 'a buffer cut by a length that comes beside it', r'\.\.\w+(\.\w+)*(\.div_ceil\(8\))?\.min\(\d+\)\]')
 
-# 7: tables of functions, and switches on which step to run
+# switches: tables of functions, and switches on which step to run
 each_line(7, 'a table of functions or a function pointer', r'\bfn\(|\[fn|&dyn |Box<dyn')
 
 for (point, kind), places in found.items():
-    print(f'{point}  {len(places):3}  {kind}')
+    print(f'{POINTS[point]:16} {len(places):3}  {kind}')
     if verbose:
         for p in places:
             print('        ', p)

@@ -1,4 +1,5 @@
 pub mod Buffers
+pub mod Memory
 pub mod Octets
 pub mod Packed
 pub mod Sink

@@ -1,8 +1,7 @@
 -- Bits as text: octet 30h is a 0 and 31h a 1; all else is passed over.
-use Rattle.std.specs.Prelude.{ℕ, ◌-◌, min, Bool, true, false, cond, List, [], ◌∷◌, map, length, take, ◌==◌, nat_eq}
+use Rattle.std.specs.Prelude.{ℕ, Bool, true, false, cond, List, [], ◌∷◌, map, take, ◌==◌, nat_eq}
 use Rattle.std.specs.List.{flat_map}
 use Rattle.bits.specs.declared.text.TextSource.{TextSource}
-use Rattle.bits.specs.declared.text_sink.TextSink.{TextSink}
 
 -- the bit that an octet stands for, or none
 abbrev pub text_bit : ℕ → List Bool
@@ -20,16 +19,9 @@ text_waiting s = text_bits s.rest.now
 abbrev pub text_octet : Bool → ℕ
 text_octet b = cond b 49 48
 
--- where a text sink ends, within its memory, and how many bits were put
-abbrev pub text_end : TextSink → ℕ
-text_end s = min s.end (length s.octets.now)
+-- the bits in the first octets of a text, as many as a count says: 1 for 31h
+abbrev pub is_one : ℕ → Bool
+is_one o = nat_eq o 49
 
-abbrev pub text_count : TextSink → ℕ
-text_count s = min s.count (text_end s)
-
--- what a text sink holds: a bit for each octet written, 1 for 31h
-abbrev pub text_held : TextSink → List Bool
-text_held s = map (λ o. nat_eq o 49) (take (text_count s) s.octets.now)
-
-abbrev pub text_space : TextSink → ℕ
-text_space s = text_end s - text_count s
+abbrev pub text_first : ℕ → List ℕ → List Bool
+text_first n os = map is_one (take n os)

@@ -1,19 +1,21 @@
 -- Items checked and summed up one by one.
 use Rattle.std.proofs.Common.{◌≡◌, ℕ, ◌+◌, ◌*◌, ◌<◌, ◌≤◌, Bool, cond, eqb, ltb, ◌⊎◌, List, [], ◌∷◌, ◌++◌, length, take, Ok, Err, sym, refl, ap, ◌∙◌, subst, inl, inr, append_assoc, append-nil, arith}
-use Rattle.std.proofs.ByRecursion.{All-push}
-use Rattle.std.proofs.lemmas.List.{map_push, take_more, take_all}
+use Rattle.std.specs.List.{All, AllByRecursion, flat_map}
+use Rattle.std.proofs.ByRecursion.{All-push as push_by_recursion}
+use Rattle.std.proofs.lemmas.List.Elements.{All-more}
 use Rattle.std.proofs.lemmas.Bool.{cases_order, ltb-true, lt-ltb}
 use Rattle.register.specs.Groups.{group_octet}
 use Rattle.register.specs.declared.Group.{Group}
 use Rattle.register.specs.declared.Group.TheVariants.{Public, Private}
-use Rattle.xid.specs.Fields.{Param, Readable}
-use Rattle.composer.specs.Composing.{of_group, param_of, params_of, item_at, Wrong, turn, compose_number, First}
-use Rattle.composer.specs.Checking.{Outside, Disordered, ItemChecked, ItemRight, group_size, Sums, NoneBefore, Checked}
+use Rattle.xid.specs.Fields.{param_octets, Readable}
+use Rattle.composer.specs.Composing.{of_group, param_of, params_of, item_at, Wrong, turn, compose_number}
+use Rattle.composer.specs.Checking.{Outside, Disordered, ItemChecked, NoneBefore, ItemsChecked}
+use Rattle.composer.specs.Sizes.{ItemRight, group_size}
 use Rattle.composer.specs.declared.Item.{Item}
-use Rattle.composer.specs.declared.Totals.{Totals}
+use Rattle.composer.specs.declared.checked.Totals.{Totals}
 use Rattle.composer.specs.declared.ComposeError.{ComposeError}
 use Rattle.composer.specs.declared.ComposeError.TheVariants.{TooManyItems, ValueOutside, GroupOrder, Unreadable, TooLong}
-use Rattle.composer.proofs.Groups.{is_of_here, is_not_of, of_group_in, of_group_out, size_in, size_out, size_none, length-value}
+use Rattle.composer.proofs.Groups.{params_more, parts_more, parts_as_before, size_more, size_none}
 
 named : (n : ℕ) (g : Group) → group_octet g ≡ n → group_octet (cond (eqb n 0x80) Public Private) ≡ n
 named n Public is = subst (λ (m : ℕ). group_octet (cond (eqb m 0x80) Public Private) ≡ m) is refl
@@ -25,69 +27,15 @@ item_right i item values behind g checked =
       inside = grind (arith, checked.1);
       short = grind (arith, checked.1);
       named = named item.group g checked.0;
-      readable = checked.3;
     }
 
--- one item more
-module _ (items : List Item) (values : List ℕ) (item : Item) (t : Totals) (sums : Sums items values t) (right : ItemRight values item) where
-  all_params : params_of (items ++ item ∷ []) values ≡ params_of items values ++ param_of values item ∷ []
-  all_params = map_push (param_of values) items item
-
-  size_of : (g : Group) → item.group ≡ group_octet g
-      → group_size g (params_of (items ++ item ∷ []) values) ≡ group_size g (params_of items values) + (2 + item.length)
-  size_of g is =
-      ap (group_size g) all_params
-      ∙ size_in g (params_of items values) (param_of values item) (is_of_here item values g right is)
-      ∙ ap (λ n. group_size g (params_of items values) + (2 + n)) (length-value item values right.inside)
-
-  size_other : (g : Group) → (item.group ≡ group_octet g → ⊥) → group_size g (params_of (items ++ item ∷ []) values) ≡ group_size g (params_of items values)
-  size_other g is =
-      ap (group_size g) all_params ∙ size_out g (params_of items values) (param_of values item) (is_not_of item values g right is)
-
-  parts : (public private : List Param) → of_group Public (params_of items values ++ param_of values item ∷ []) ≡ public
-      → of_group Private (params_of items values ++ param_of values item ∷ []) ≡ private
-      → (of_group Public (params_of items values) ++ of_group Private (params_of items values)) ++ param_of values item ∷ [] ≡ public ++ private
-      → params_of (items ++ item ∷ []) values ≡ of_group Public (params_of (items ++ item ∷ []) values) ++ of_group Private (params_of (items ++ item ∷ []) values)
-  parts public private is-public is-private joins =
-      all_params
-      ∙ ap (λ l. l ++ param_of values item ∷ []) sums.ordered
-      ∙ joins
-      ∙ ap (λ l. l ++ private) (sym is-public)
-      ∙ ap (λ l. of_group Public (params_of items values ++ param_of values item ∷ []) ++ l) (sym is-private)
-      ∙ ap (λ l. of_group Public l ++ of_group Private l) (sym all_params)
-
-  pub sums_public : item.group ≡ 0x80 → t.private ≡ 0 → Sums (items ++ item ∷ []) values (record { public = t.public + (2 + item.length); private = t.private })
-  sums_public is none =
-      let qs = of_group Public (params_of items values) in
-      let rs = of_group Private (params_of items values) in
-      let p = param_of values item in
-      let other : item.group ≡ group_octet Private → ⊥ = λ e. omega arith in
-      let no-private : rs ≡ [] = size_none rs (sym sums.private ∙ none) in
-      record {
-        each = All-push (ItemRight values) items item sums.each right;
-        ordered = parts (qs ++ p ∷ []) rs
-            (of_group_in Public (params_of items values) p (is_of_here item values Public right is))
-            (of_group_out Private (params_of items values) p (is_not_of item values Private right other))
-            (ap (λ l. (qs ++ l) ++ p ∷ []) no-private ∙ ap (λ l. l ++ p ∷ []) (append-nil qs) ∙ sym (append-nil (qs ++ p ∷ [])) ∙ ap (λ l. (qs ++ p ∷ []) ++ l) (sym no-private));
-        public = ap (λ n. n + (2 + item.length)) sums.public ∙ sym (size_of Public is);
-        private = sums.private ∙ sym (size_other Private other);
-      }
-
-  pub sums_private : item.group ≡ 0xF0 → Sums (items ++ item ∷ []) values (record { public = t.public; private = t.private + (2 + item.length) })
-  sums_private is =
-      let qs = of_group Public (params_of items values) in
-      let rs = of_group Private (params_of items values) in
-      let p = param_of values item in
-      let other : item.group ≡ group_octet Public → ⊥ = λ e. omega arith in
-      record {
-        each = All-push (ItemRight values) items item sums.each right;
-        ordered = parts qs (rs ++ p ∷ [])
-            (of_group_out Public (params_of items values) p (is_not_of item values Public right other))
-            (of_group_in Private (params_of items values) p (is_of_here item values Private right is))
-            (append_assoc qs rs (p ∷ []));
-        public = sums.public ∙ sym (size_other Public other);
-        private = ap (λ n. n + (2 + item.length)) sums.private ∙ sym (size_of Private is);
-      }
+-- items that may stand in a field one behind the other, and how many octets the parameters of each group take
+pub record Sums (items : List Item) (values : List ℕ) (t : Totals) : Type 0 where
+  pub each : All (ItemRight values) items
+  pub readable : AllByRecursion Readable (params_of items values)
+  pub ordered : params_of items values ≡ of_group Public (params_of items values) ++ of_group Private (params_of items values)
+  pub public : t.public ≡ group_size Public (params_of items values)
+  pub private : t.private ≡ group_size Private (params_of items values)
 
 -- the items before an index stand, and these are their sums
 pub record SoFar (items : List Item) (values : List ℕ) (i : ℕ) (t : Totals) : Type 0 where
@@ -107,7 +55,7 @@ none_first items values few room TooLong wrong = omega arith
 pub so_far_none : (items : List Item) (values : List ℕ) → length items ≤ 255 → SoFar items values 0 (record { public = 0; private = 0 })
 so_far_none items values few =
     record {
-      sums = record { each = tt; ordered = refl; public = refl; private = refl };
+      sums = record { each = λ k d within. absurd (omega arith); readable = tt; ordered = refl; public = refl; private = refl };
       few = omega arith;
       none = none_first items values few;
       behind = λ h. absurd (omega arith);
@@ -125,109 +73,100 @@ module _ (items : List Item) (values : List ℕ) (i : ℕ) (t : Totals) (within 
   order_told room (_, inl other) = inl other
   order_told room (_, inr (is, (k, (before, group)))) = inr (is, lt-ltb 0 t.private (so_far.private k before group))
 
-  -- a refusal of the item is the first, where those with a lower number are ruled out
-  first_here : (room : ℕ) (e : ComposeError) → turn items e ≡ 1 + i
-      → (Wrong items values room (ValueOutside i) → compose_number e ≤ 52) → (Wrong items values room (GroupOrder i) → compose_number e ≤ 53) → compose_number e ≤ 54
-      → (f : ComposeError) → Wrong items values room f → (turn items e < turn items f) ⊎ ((turn items e ≡ turn items f) × (compose_number e ≤ compose_number f))
-  first_here room e at one two three TooManyItems wrong = absurd (omega (arith, so_far.none room TooManyItems wrong))
-  first_here room e at one two three (ValueOutside j) wrong =
+  -- what is wrong with the item itself
+  abbrev Here : ComposeError → Type 0
+  Here (ValueOutside j) = Outside (item_at items i) values
+  Here (GroupOrder j) = Disordered (item_at items i) (ltb 0 t.private)
+  Here (Unreadable j) = Readable (param_of values (item_at items i)) → ⊥
+  Here TooManyItems = ⊥
+  Here TooLong = ⊥
+
+  -- what is wrong is wrong with it, or comes later
+  here_or_later : (room : ℕ) (f : ComposeError) → Wrong items values room f → (1 + i < turn items f) ⊎ ((1 + i ≡ turn items f) × Here f)
+  here_or_later room TooManyItems wrong = absurd (omega (arith, so_far.none room TooManyItems wrong))
+  here_or_later room (ValueOutside j) wrong =
       elim (cases_order i j) [
-        | inl same ↦ inr (omega arith, one (subst (λ (k : ℕ). Wrong items values room (ValueOutside k)) (sym same) wrong))
+        | inl same ↦ inr (omega arith, subst (λ (k : ℕ). Outside (item_at items k) values) (sym same) wrong.1)
         | inr (inl before) ↦ inl (omega arith)
         | inr (inr behind) ↦ absurd (omega (arith, so_far.none room (ValueOutside j) wrong))
       ]
-  first_here room e at one two three (GroupOrder j) wrong =
+  here_or_later room (GroupOrder j) wrong =
       elim (cases_order i j) [
-        | inl same ↦ inr (omega arith, two (subst (λ (k : ℕ). Wrong items values room (GroupOrder k)) (sym same) wrong))
+        | inl same ↦ inr (omega arith, order_told room (subst (λ (k : ℕ). Wrong items values room (GroupOrder k)) (sym same) wrong))
         | inr (inl before) ↦ inl (omega arith)
         | inr (inr behind) ↦ absurd (omega (arith, so_far.none room (GroupOrder j) wrong))
       ]
-  first_here room e at one two three (Unreadable j) wrong =
+  here_or_later room (Unreadable j) wrong =
       elim (cases_order i j) [
-        | inl same ↦ inr (omega arith, three)
+        | inl same ↦ inr (omega arith, subst (λ (k : ℕ). Readable (param_of values (item_at items k)) → ⊥) (sym same) wrong.1)
         | inr (inl before) ↦ inl (omega arith)
         | inr (inr behind) ↦ absurd (omega (arith, so_far.none room (Unreadable j) wrong))
       ]
-  first_here room e at one two three TooLong wrong = inl (omega arith)
+  here_or_later room TooLong wrong = inl (omega arith)
 
-  pub refused : (e : ComposeError) → ItemChecked i (item_at items i) values (ltb 0 t.private) (Err e) → Checked items values (Err e)
-  refused e (inl (is, outside)) room =
-      subst (First items values room) (sym is)
-      (record { wrong = (within, outside); first = first_here room (ValueOutside i) refl (λ _. omega arith) (λ _. omega arith) (omega arith) })
-  refused e (inr (inl (is, inside, order))) room =
-      subst (First items values room) (sym is)
-      (record {
-        wrong = order_wrong room order;
-        first = first_here room (GroupOrder i) refl (λ wrong. absurd (inside wrong.1)) (λ _. omega arith) (omega arith);
-      })
-  refused e (inr (inr (is, inside, order, unreadable))) room =
-      subst (First items values room) (sym is)
-      (record {
-        wrong = (within, unreadable);
-        first = first_here room (Unreadable i) refl (λ wrong. absurd (inside wrong.1)) (λ wrong. absurd (order (order_told room wrong))) (omega arith);
-      })
-
-  -- where nothing is wrong with it, no refusal comes before the next
-  none_more : (g : Group) → ItemChecked i (item_at items i) values (ltb 0 t.private) (Ok g) → NoneBefore items values (1 + (i + 1))
-  none_more g checked room TooManyItems wrong = absurd (omega (arith, so_far.none room TooManyItems wrong))
-  none_more g checked room (ValueOutside j) wrong =
-      elim (cases_order i j) [
-        | inl same ↦ absurd (checked.1 (subst (λ (k : ℕ). Outside (item_at items k) values) (sym same) wrong.1))
-        | inr (inl before) ↦ omega arith
-        | inr (inr behind) ↦ absurd (omega (arith, so_far.none room (ValueOutside j) wrong))
-      ]
-  none_more g checked room (GroupOrder j) wrong =
-      elim (cases_order i j) [
-        | inl same ↦ absurd (checked.2 (order_told room (subst (λ (k : ℕ). Wrong items values room (GroupOrder k)) (sym same) wrong)))
-        | inr (inl before) ↦ omega arith
-        | inr (inr behind) ↦ absurd (omega (arith, so_far.none room (GroupOrder j) wrong))
-      ]
-  none_more g checked room (Unreadable j) wrong =
-      elim (cases_order i j) [
-        | inl same ↦ absurd (wrong.1 (subst (λ (k : ℕ). Readable (param_of values (item_at items k))) same checked.3))
-        | inr (inl before) ↦ omega arith
-        | inr (inr behind) ↦ absurd (omega (arith, so_far.none room (Unreadable j) wrong))
-      ]
-  none_more g checked room TooLong wrong = omega arith
-
-  taken_more : (u : Totals) → Sums (take i items ++ item_at items i ∷ []) values u → Sums (take (i + 1) items) values u
-  taken_more u sums =
-      subst (λ (l : List Item). Sums l values u) (sym (take_more items i (record { group = 0; identifier = 0; place = 0; length = 0 }) within)) sums
-
-  public_more : ItemChecked i (item_at items i) values (ltb 0 t.private) (Ok Public)
-      → SoFar items values (i + 1) (record { public = t.public + (2 + (item_at items i).length); private = t.private })
-  public_more checked =
-      let right = item_right i (item_at items i) values (ltb 0 t.private) Public checked in
-      let none : t.private ≡ 0 = elim (cases_order 0 t.private) [
-        | inl e ↦ sym e
-        | inr (inl l) ↦ absurd (checked.2 (inr (sym checked.0, lt-ltb 0 t.private l)))
-        | inr (inr l) ↦ absurd (omega arith)
-      ] in
+  -- a refusal of the item is the first, where none with a lower number is right
+  first_here : (e : ComposeError) → turn items e ≡ 1 + i → ((room : ℕ) → Wrong items values room e) → ((f : ComposeError) → Here f → compose_number e ≤ compose_number f)
+      → ItemsChecked items values (Err e)
+  first_here e at wrong least room =
       record {
-        sums = taken_more (record { public = t.public + (2 + (item_at items i).length); private = t.private })
-            (sums_public (take i items) values (item_at items i) t so_far.sums right (sym checked.0) none);
-        few = omega (arith, so_far.few, right.short);
-        none = none_more Public checked;
-        behind = λ some. absurd (omega arith);
-        private = λ k before is. elim (cases_order i k) [
-          | inl e ↦ let here : (item_at items i).group ≡ 0xF0 = subst (λ (j : ℕ). (item_at items j).group ≡ 0xF0) (sym e) is in absurd (omega (arith, checked.0))
-          | inr (inl l) ↦ absurd (omega arith)
-          | inr (inr l) ↦ so_far.private k l is
-        ];
+        wrong = wrong room;
+        first = λ f also. elim (here_or_later room f also) [ inl later ↦ inl (omega arith) | inr (now, here) ↦ inr (omega arith, least f here) ];
       }
 
-  private_more : ItemChecked i (item_at items i) values (ltb 0 t.private) (Ok Private)
-      → SoFar items values (i + 1) (record { public = t.public; private = t.private + (2 + (item_at items i).length) })
-  private_more checked =
-      let right = item_right i (item_at items i) values (ltb 0 t.private) Private checked in
-      record {
-        sums = taken_more (record { public = t.public; private = t.private + (2 + (item_at items i).length) })
-            (sums_private (take i items) values (item_at items i) t so_far.sums right (sym checked.0));
-        few = omega (arith, so_far.few, right.short);
-        none = none_more Private checked;
-        behind = λ some. (i, (omega arith, sym checked.0));
-        private = λ k before is. omega arith;
-      }
+  least_outside : (f : ComposeError) → Here f → 52 ≤ compose_number f
+  least_outside (ValueOutside j) here = omega arith
+  least_outside (GroupOrder j) here = omega arith
+  least_outside (Unreadable j) here = omega arith
+  least_outside TooManyItems here = absurd here
+  least_outside TooLong here = absurd here
+
+  least_order : (Outside (item_at items i) values → ⊥) → (f : ComposeError) → Here f → 53 ≤ compose_number f
+  least_order inside (ValueOutside j) here = absurd (inside here)
+  least_order inside (GroupOrder j) here = omega arith
+  least_order inside (Unreadable j) here = omega arith
+  least_order inside TooManyItems here = absurd here
+  least_order inside TooLong here = absurd here
+
+  least_unreadable : (Outside (item_at items i) values → ⊥) → (Disordered (item_at items i) (ltb 0 t.private) → ⊥) → (f : ComposeError) → Here f → 54 ≤ compose_number f
+  least_unreadable inside order (ValueOutside j) here = absurd (inside here)
+  least_unreadable inside order (GroupOrder j) here = absurd (order here)
+  least_unreadable inside order (Unreadable j) here = omega arith
+  least_unreadable inside order TooManyItems here = absurd here
+  least_unreadable inside order TooLong here = absurd here
+
+  pub refused : (e : ComposeError) → ItemChecked i (item_at items i) values (ltb 0 t.private) (Err e) → ItemsChecked items values (Err e)
+  refused e (inl (is, outside)) = rw is (first_here (ValueOutside i) refl (λ room. (within, outside)) least_outside)
+  refused e (inr (inl (is, inside, order))) = rw is (first_here (GroupOrder i) refl (λ room. order_wrong room order) (least_order inside))
+  refused e (inr (inr (is, inside, order, unreadable))) =
+      rw is (first_here (Unreadable i) refl (λ room. (within, unreadable)) (least_unreadable inside order))
+
+  -- an item with which nothing is wrong
+  module _ (g : Group) (checked : ItemChecked i (item_at items i) values (ltb 0 t.private) (Ok g)) where
+    right : ItemRight values (item_at items i)
+    right = item_right i (item_at items i) values (ltb 0 t.private) g checked
+
+    clear : (f : ComposeError) → Here f → ⊥
+    clear (ValueOutside j) here = checked.1 here
+    clear (GroupOrder j) here = checked.2 here
+    clear (Unreadable j) here = here checked.3
+    clear TooManyItems here = here
+    clear TooLong here = here
+
+    none_more : NoneBefore items values (1 + (i + 1))
+    none_more room f wrong = elim (here_or_later room f wrong) [ inl later ↦ omega arith | inr (now, here) ↦ absurd (clear f here) ]
+
+    -- what holds of the items up to it in either group
+    sums_more : (u : Totals) → u.public ≡ group_size Public (params_of (take (i + 1) items) values) → u.private ≡ group_size Private (params_of (take (i + 1) items) values)
+        → params_of (take (i + 1) items) values ≡ of_group Public (params_of (take (i + 1) items) values) ++ of_group Private (params_of (take (i + 1) items) values)
+        → Sums (take (i + 1) items) values u
+    sums_more u public private ordered =
+        record {
+          each = All-more (ItemRight values) items i (record { group = 0; identifier = 0; place = 0; length = 0 }) within so_far.sums.each right;
+          readable = rw (params_more items values i within) (push_by_recursion Readable (params_of (take i items) values) (param_of values (item_at items i)) so_far.sums.readable checked.3);
+          ordered = ordered;
+          public = public;
+          private = private;
+        }
 
   -- the sums behind it
   abbrev added : Group → Totals
@@ -235,15 +174,57 @@ module _ (items : List Item) (values : List ℕ) (i : ℕ) (t : Totals) (within 
   added Private = record { public = t.public; private = t.private + (2 + (item_at items i).length) }
 
   more : (g : Group) → ItemChecked i (item_at items i) values (ltb 0 t.private) (Ok g) → SoFar items values (i + 1) (added g)
-  more Public checked = public_more checked
-  more Private checked = private_more checked
+  more Public checked =
+      let ps = params_of (take i items) values in
+      let p = param_of values (item_at items i) in
+      let here = right Public checked in
+      let same : (item_at items i).group ≡ group_octet Public = sym checked.0 in
+      let other : (item_at items i).group ≡ group_octet Private → ⊥ = λ e. omega (arith, checked.0) in
+      let none : t.private ≡ 0 = elim (cases_order 0 t.private) [
+        | inl e ↦ sym e
+        | inr (inl l) ↦ absurd (checked.2 (inr (same, lt-ltb 0 t.private l)))
+        | inr (inr l) ↦ absurd (omega arith)
+      ] in
+      let no-private : of_group Private ps ≡ [] = size_none (of_group Private ps) (sym so_far.sums.private ∙ none) in
+      let all : ps ≡ of_group Public ps = so_far.sums.ordered ∙ ap (λ l. of_group Public ps ++ l) no-private ∙ append-nil (of_group Public ps) in
+      record {
+        sums = sums_more Public checked (added Public)
+            (omega (arith, so_far.sums.public, size_more Public items values i within here same))
+            (so_far.sums.private ∙ sym (ap (λ l. length (flat_map param_octets l)) (parts_as_before Private items values i within here other)))
+            (params_more items values i within
+            ∙ ap (λ l. l ++ p ∷ []) all
+            ∙ sym (parts_more Public items values i within here same)
+            ∙ sym (append-nil (of_group Public (params_of (take (i + 1) items) values)))
+            ∙ ap (λ l. of_group Public (params_of (take (i + 1) items) values) ++ l) (sym (parts_as_before Private items values i within here other ∙ no-private)));
+        few = omega (arith, so_far.few, here.short);
+        none = none_more Public checked;
+        behind = λ some. absurd (omega arith);
+        private = λ k before is. elim (cases_order i k) [
+          | inl e ↦ let at : (item_at items i).group ≡ 0xF0 = subst (λ (j : ℕ). (item_at items j).group ≡ 0xF0) (sym e) is in absurd (other at)
+          | inr (inl l) ↦ absurd (omega arith)
+          | inr (inr l) ↦ so_far.private k l is
+        ];
+      }
+  more Private checked =
+      let ps = params_of (take i items) values in
+      let p = param_of values (item_at items i) in
+      let here = right Private checked in
+      let same : (item_at items i).group ≡ group_octet Private = sym checked.0 in
+      let other : (item_at items i).group ≡ group_octet Public → ⊥ = λ e. omega (arith, checked.0) in
+      record {
+        sums = sums_more Private checked (added Private)
+            (so_far.sums.public ∙ sym (ap (λ l. length (flat_map param_octets l)) (parts_as_before Public items values i within here other)))
+            (omega (arith, so_far.sums.private, size_more Private items values i within here same))
+            (params_more items values i within
+            ∙ ap (λ l. l ++ p ∷ []) so_far.sums.ordered
+            ∙ append_assoc (of_group Public ps) (of_group Private ps) (p ∷ [])
+            ∙ ap (λ l. l ++ (of_group Private ps ++ p ∷ [])) (sym (parts_as_before Public items values i within here other))
+            ∙ ap (λ l. of_group Public (params_of (take (i + 1) items) values) ++ l) (sym (parts_more Private items values i within here same)));
+        few = omega (arith, so_far.few, here.short);
+        none = none_more Private checked;
+        behind = λ some. (i, (omega arith, sym checked.0));
+        private = λ k before is. omega arith;
+      }
 
   pub so_far_more : (g h : Group) (u : Totals) → ItemChecked i (item_at items i) values (ltb 0 t.private) (Ok g) → g ≡ h → u ≡ added h → SoFar items values (i + 1) u
   so_far_more g h u checked same is = subst (SoFar items values (i + 1)) (ap added same ∙ sym is) (more g checked)
-
--- all items
-pub so_far_all : (items : List Item) (values : List ℕ) (i : ℕ) (t : Totals) → length items ≤ 255 → i ≤ length items → length items ≤ i → SoFar items values i t → Checked items values (Ok t)
-so_far_all items values i t few most all so_far =
-    let same : i ≡ length items = omega arith in
-    let sums : Sums items values t = subst (λ (l : List Item). Sums l values t) (take_all i items all) so_far.sums in
-    (sums, omega (arith, so_far.few), λ room e wrong. omega (arith, so_far.none room e wrong))

@@ -1,6 +1,5 @@
 pub mod Checks
 pub mod Groups
-pub mod Puts
 pub mod Readers
 pub mod Wholes
 pub mod Written

@@ -4,8 +4,9 @@ use Rattle.std.specs.List.{flat_map, AllByRecursion as All}
 use Rattle.register.specs.Groups.{group_octet}
 use Rattle.register.specs.declared.Group.{Group}
 use Rattle.register.specs.declared.Group.TheVariants.{Public, Private}
-use Rattle.xid.specs.Fields.{Param, param_octets, Readable, Beginning, nothing, leading, header, parameter, begun, left, last_group, parameters, Follows, Whole, WellFormed}
+use Rattle.xid.specs.Fields.{Param, param_octets, Readable, Beginning, leading, header, parameter, begun, left, last_group, parameters, Follows, Whole, WellFormed}
 use Rattle.xid.specs.Reading.{Reading}
+use Rattle.xid.proofs.SamePieces.{whole_left}
 use Rattle.composer.specs.Composing.{of_group, group_octets, field_octets}
 use Rattle.composer.proofs.Groups.{all_of_group, of_group_same}
 
@@ -76,13 +77,6 @@ grouped-ready b g os ps (q ∷ qs) ready follows same readable few =
 private_follows : (ps : List Param) → Follows (last_group (grouped leading Public ps)) Private
 private_follows [] = tt
 private_follows (p ∷ ps) = rw (grown_last (header leading Public (length (flat_map param_octets (p ∷ ps)))) (p ∷ ps)) tt
-
--- a whole group leaves nothing to come
-whole_left : (b : Beginning) → Whole b → left b ≡ 0
-whole_left nothing whole = absurd whole
-whole_left leading whole = refl
-whole_left (header b g n) whole = whole
-whole_left (parameter b p) whole = omega arith
 
 groups_size : (g : Group) (ps : List Param) → length (flat_map param_octets ps) ≤ length (group_octets g ps)
 groups_size g [] = omega arith

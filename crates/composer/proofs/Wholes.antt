@@ -1,105 +1,83 @@
 -- A whole field: how long it is, when it is too long, and what stands in the output.
-use Rattle.std.proofs.Common.{◌≡◌, ℕ, ◌+◌, ◌<◌, ◌≤◌, List, [], ◌∷◌, ◌++◌, length, take, drop, set, None, sym, refl, ap, ◌∙◌, subst, inl, inr, append-nil, arith, length-append, length-set}
+use Rattle.std.proofs.Common.{◌≡◌, ℕ, zero, suc, ◌+◌, ◌-◌, ◌<◌, ◌≤◌, List, [], ◌∷◌, ◌++◌, length, get_or, take, drop, None, sym, refl, ap, ◌∙◌, subst, inl, inr, append-nil, arith, length-append}
 use Rattle.std.specs.List.{flat_map}
-use Rattle.std.proofs.ByRecursion.{All-map, All-weaker}
-use Rattle.std.proofs.lemmas.List.{take_at}
+use Rattle.std.proofs.lemmas.List.{take_at, take_more, flat_map_more}
+use borrow.Rule.Slice.PartMut.{put_mid, mid_of}
 use Rattle.bits.specs.Buffers.{over}
 use Rattle.register.specs.declared.Group.{Group}
 use Rattle.register.specs.declared.Group.TheVariants.{Public, Private}
-use Rattle.xid.specs.Fields.{Param, param_octets, Readable}
+use Rattle.xid.specs.Fields.{Param}
 use Rattle.xid.specs.Reading.{Reading}
-use Rattle.composer.specs.Composing.{of_group, group_octets, field_octets, param_of, params_of, Wrong, turn, compose_number, First, Accepted}
-use Rattle.composer.specs.Checking.{ItemRight, Sums, NoneBefore, Put}
+use Rattle.composer.specs.Composing.{of_group, group_octets, field_octets, params_of, Wrong, Accepted}
+use Rattle.composer.specs.Checking.{Stand, params}
 use Rattle.composer.specs.declared.Item.{Item}
-use Rattle.composer.specs.declared.Totals.{Totals}
+use Rattle.composer.specs.declared.checked.Checked.{Checked}
 use Rattle.composer.specs.declared.ComposeError.{ComposeError}
 use Rattle.composer.specs.declared.ComposeError.TheVariants.{TooManyItems, ValueOutside, GroupOrder, Unreadable, TooLong}
-use Rattle.composer.proofs.Puts.{put_one, put_then}
+use Rattle.composer.proofs.Written.{Front, front_same, front_more}
 use Rattle.composer.proofs.Readers.{field_reads}
 
-group_none : (g : Group) (ps : List Param) (n : ℕ) → n ≡ length (flat_map param_octets ps) → n ≤ 0 → group_octets g ps ≡ []
-group_none g [] n is none = refl
-group_none g (p ∷ ps) n is none = absurd (omega arith)
+abbrev both : List Group
+both = Public ∷ Private ∷ []
 
-group_some : (g : Group) (ps : List Param) (n : ℕ) → n ≡ length (flat_map param_octets ps) → 0 < n → length (group_octets g ps) ≡ 3 + n
-group_some g [] n is some = absurd (omega arith)
-group_some g (p ∷ ps) n is some = omega arith
+-- the leading octet, and the first groups
+abbrev pub groups_so_far : List Param → ℕ → List ℕ
+groups_so_far ps i = 0x82 ∷ flat_map (λ g. group_octets g (of_group g ps)) (take i both)
 
--- the length of a group, told from that of its parameters
-group_told : (g : Group) (ps : List Param) (n r : ℕ) → n ≡ length (flat_map param_octets ps) → (n ≡ 0 → r ≡ 0) → (0 < n → r ≡ 3 + n) → r ≡ length (group_octets g ps)
-group_told g [] n r is none some = none is
-group_told g (p ∷ ps) n r is none some = let long = some (omega arith) in omega arith
+groups_all : (ps : List Param) → groups_so_far ps 2 ≡ field_octets ps
+groups_all ps = ap (λ l. 0x82 ∷ group_octets Public (of_group Public ps) ++ l) (append-nil (group_octets Private (of_group Private ps)))
 
--- octets over the front of the output, and their end
-pub record Front (os old new : List ℕ) (stop : ℕ) : Type 0 where
-  pub end : stop ≡ length os
-  pub kept : length new ≡ length old
-  pub put : Put 0 os old new
+groups_within : (ps : List Param) (i : ℕ) → i < 2 → length (groups_so_far ps (i + 1)) ≤ length (field_octets ps)
+groups_within ps zero within =
+    let one = group_octets Public (of_group Public ps) in
+    omega (arith, length-append one (group_octets Private (of_group Private ps)), ap length (append-nil one))
+groups_within ps (suc zero) within = omega (arith, ap length (groups_all ps))
+groups_within ps (suc (suc i)) within = absurd (omega arith)
 
-pub front_one : (x : ℕ) (old : List ℕ) → 0 < length old → Front (x ∷ []) old (set old 0 x) 1
-front_one x old room = record { end = refl; kept = length-set old 0 x; put = put_one 0 x old room }
+-- a group behind those before it
+pub group_more : (ps : List Param) (i start stop : ℕ) (was mid new part : List ℕ) (d : Group) → i < 2 → length (field_octets ps) ≤ length was → length mid ≡ length was
+    → Front (groups_so_far ps i) was mid start → stop ≡ start + length (group_octets (get_or both i d) (of_group (get_or both i d) ps))
+    → part ≡ over (group_octets (get_or both i d) (of_group (get_or both i d) ps)) (mid_of start (length mid - start) mid)
+    → new ≡ put_mid start (length mid - start) mid part → Front (groups_so_far ps (i + 1)) was new stop
+group_more ps i start stop was mid new part d within room kept front end is put =
+    let octets = λ (g : Group). group_octets g (of_group g ps) in
+    let g = get_or both i d in
+    let joins : groups_so_far ps i ++ octets g ≡ groups_so_far ps (i + 1) =
+    ap (λ l. 0x82 ∷ l) (flat_map_more octets [] (take i both) g) ∙ ap (λ l. 0x82 ∷ flat_map octets l) (sym (take_more both i d within)) in
+    let fits : start + length (octets g) ≤ length mid =
+    omega (arith, groups_within ps i within, ap length joins, length-append (groups_so_far ps i) (octets g), front.end) in
+    front_same (groups_so_far ps i ++ octets g) (groups_so_far ps (i + 1)) was new stop joins
+    (front_more (groups_so_far ps i) (octets g) was mid new part start stop (length mid - start) front fits (omega arith) end is put)
 
-module _ (g : Group) (ps : List Param) (n : ℕ) (sum : n ≡ length (flat_map param_octets ps)) (os old mid new : List ℕ) (start stop : ℕ) (front : Front os old mid start) where
-  pub front_group : 0 < n → stop ≡ start + 3 + n → length new ≡ length mid → Put start (group_octets g ps) mid new → Front (os ++ group_octets g ps) old new stop
-  front_group some end kept put =
-      record {
-        end = omega (arith, length-append os (group_octets g ps), group_some g ps n sum some, front.end);
-        kept = kept ∙ front.kept;
-        put = put_then 0 start os (group_octets g ps) old mid new (omega (arith, front.end)) front.kept front.put put;
-      }
-
-  pub front_as_before : n ≤ 0 → stop ≡ start → new ≡ mid → Front (os ++ group_octets g ps) old new stop
-  front_as_before none end is =
-      let all : os ≡ os ++ group_octets g ps = sym (ap (λ l. os ++ l) (group_none g ps n sum none) ∙ append-nil os) in
-      record {
-        end = end ∙ front.end ∙ ap length all;
-        kept = ap length is ∙ front.kept;
-        put = λ ahead was long same here. is ∙ front.put ahead was long same here ∙ ap (λ l. over (ahead ++ l) was) all;
-      }
-
-module _ (items : List Item) (values : List ℕ) (t : Totals) (sums : Sums items values t) (none : NoneBefore items values (1 + length items)) where
-  pub field_length : (r s : ℕ) → (t.public ≡ 0 → r ≡ 0) → (0 < t.public → r ≡ 3 + t.public) → (t.private ≡ 0 → s ≡ 0) → (0 < t.private → s ≡ 3 + t.private)
-      → 1 + r + s ≡ length (field_octets (params_of items values))
-  field_length r s no-public public no-private private =
-      let qs = of_group Public (params_of items values) in
-      let rs = of_group Private (params_of items values) in
-      omega (
-        arith,
-        group_told Public qs t.public r sums.public no-public public,
-        group_told Private rs t.private s sums.private no-private private,
-        length-append (group_octets Public qs) (group_octets Private rs),
-      )
-
+module _ (items : List Item) (values : List ℕ) (c : Checked) (stand : Stand items values c) where
   only_long : (room : ℕ) (e : ComposeError) → Wrong items values room e → e ≡ TooLong
-  only_long room TooManyItems wrong = absurd (omega (arith, none room TooManyItems wrong))
-  only_long room (ValueOutside j) wrong = absurd (omega (arith, none room (ValueOutside j) wrong, wrong.0))
-  only_long room (GroupOrder j) wrong = absurd (omega (arith, none room (GroupOrder j) wrong, wrong.0))
-  only_long room (Unreadable j) wrong = absurd (omega (arith, none room (Unreadable j) wrong, wrong.0))
+  only_long room TooManyItems wrong = absurd (omega (arith, stand.none room TooManyItems wrong))
+  only_long room (ValueOutside j) wrong = absurd (omega (arith, stand.none room (ValueOutside j) wrong, wrong.0))
+  only_long room (GroupOrder j) wrong = absurd (omega (arith, stand.none room (GroupOrder j) wrong, wrong.0))
+  only_long room (Unreadable j) wrong = absurd (omega (arith, stand.none room (Unreadable j) wrong, wrong.0))
   only_long room TooLong wrong = refl
 
-  pub too_long : (room : ℕ) → Wrong items values room TooLong → First items values room TooLong
-  too_long room wrong =
-      record {
-        wrong = wrong;
-        first = λ f also. let same = only_long room f also in inr (ap (turn items) (sym same), omega (arith, ap compose_number same));
-      }
-
-  fits : (room : ℕ) → length (field_octets (params_of items values)) ≤ 2052 → length (field_octets (params_of items values)) ≤ room
+  nothing_wrong : (room : ℕ) → length (field_octets (params_of items values)) ≤ 2052 → length (field_octets (params_of items values)) ≤ room
       → (e : ComposeError) → Wrong items values room e → ⊥
-  fits room most within e wrong =
+  nothing_wrong room most within e wrong =
       elim (subst (Wrong items values room) (only_long room e wrong) wrong) [ inl long ↦ omega arith | inr long ↦ omega arith ]
 
-  pub accepted : (old new : List ℕ) (n : ℕ) → length (field_octets (params_of items values)) ≤ 2052 → length (field_octets (params_of items values)) ≤ length old
-      → Front (field_octets (params_of items values)) old new n → Accepted items values old new n
-  accepted old new n most within front =
+  -- all groups stand in the output
+  pub accepted : (old new : List ℕ) (n i : ℕ) → i ≤ 2 → 2 ≤ i → length (field_octets (params c)) ≤ 2052 → length (field_octets (params c)) ≤ length old
+      → Front (groups_so_far (params c) i) old new n → Accepted items values old new n
+  accepted old new n i most all few room front =
       let ps = params_of items values in
-      let written : new ≡ over (field_octets ps) old = front.put [] old refl refl refl in
-      let octets : take n new ≡ field_octets ps =
-      ap (take n) written ∙ take_at (field_octets ps) (drop (length (field_octets ps)) old) n (sym front.end) in
-      let readable = All-map Readable (param_of values) items (All-weaker (ItemRight values) (λ item. Readable (param_of values item)) (λ item right. right.readable) items sums.each) in
+      let same : params c ≡ ps = ap (λ l. params_of l c.values.now) stand.same_items ∙ ap (params_of items) stand.same_values in
+      let two : i ≡ 2 = omega arith in
+      let whole : groups_so_far (params c) i ≡ field_octets ps = ap (λ l. groups_so_far l i) same ∙ ap (groups_so_far ps) two ∙ groups_all ps in
+      let short : length (field_octets ps) ≤ 2052 = rw (← ap (λ l. length (field_octets l)) same) few in
+      let fits : length (field_octets ps) ≤ length old = rw (← ap (λ l. length (field_octets l)) same) room in
+      let end : n ≡ length (field_octets ps) = front.end ∙ ap length whole in
+      let written : new ≡ over (field_octets ps) old = front.written ∙ ap (λ l. over l old) whole in
+      let octets : take n new ≡ field_octets ps = ap (take n) written ∙ take_at (field_octets ps) (drop (length (field_octets ps)) old) n (sym end) in
       record {
-        right = fits (length old) most within;
-        counted = front.end;
+        right = nothing_wrong (length old) short fits;
+        counted = end;
         written = written;
-        read = subst (λ (l : List ℕ). Reading l ps None) (sym octets) (field_reads ps readable sums.ordered most);
+        read = subst (λ (l : List ℕ). Reading l ps None) (sym octets) (field_reads ps stand.readable stand.ordered short);
       }

@@ -1,5 +1,5 @@
 -- Composing: the layout of a field from its items, and what composing does.
-use Rattle.std.specs.Prelude.{◌≡◌, ℕ, ◌+◌, ◌/◌, ◌%◌, ◌<◌, ◌≤◌, cond, ◌≢◌, ◌⊎◌, List, [], ◌∷◌, ◌++◌, map, length, take, drop, None, Ok, Err, Result, ◌==◌, slice_index_or}
+use Rattle.std.specs.Prelude.{◌≡◌, ℕ, ◌+◌, ◌/◌, ◌%◌, ◌<◌, ◌≤◌, cond, ◌≢◌, ◌⊎◌, List, [], ◌∷◌, ◌++◌, map, filter, length, take, drop, None, Ok, Err, Result, ◌==◌, slice_index_or}
 use Rattle.std.specs.List.{flat_map}
 use Rattle.bits.specs.Buffers.{over}
 use Rattle.register.specs.Groups.{group_octet}
@@ -13,8 +13,7 @@ use Rattle.composer.specs.declared.ComposeError.TheVariants.{TooManyItems, Value
 
 -- the parameters of a group, in order
 abbrev pub of_group : Group → List Param → List Param
-of_group g [] = []
-of_group g (p ∷ ps) = cond (group_octet p.group == group_octet g) (p ∷ of_group g ps) (of_group g ps)
+of_group g ps = filter (λ p. group_octet p.group == group_octet g) ps
 
 -- a group: its identifier, two octets of length, high first, and its parameters; nothing where there are none
 abbrev pub group_octets : Group → List Param → List ℕ

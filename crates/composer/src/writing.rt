@@ -1,52 +1,67 @@
-// Writing the groups of a checked list of items.
-ghost use Rattle.std.specs.Prelude.{◌≡◌, ◌+◌, ◌<◌, ◌≤◌, length};
-ghost use Rattle.std.specs.List.{AllByRecursion};
+// Writing checked items, group by group.
+ghost use Rattle.std.specs.Prelude.{◌≡◌, ◌+◌, ◌≤◌, length};
+ghost use Rattle.bits.specs.Buffers.{over};
 ghost use Rattle.xid.specs.Fields.{param_octets};
-ghost use Rattle.composer.specs.Composing.{of_group, group_octets, param_of, params_of};
-ghost use Rattle.composer.specs.Checking.{ItemRight, group_size, Put};
+ghost use Rattle.composer.specs.Composing.{field_octets, param_of};
+ghost use Rattle.composer.specs.Checking.{params, group_of};
+ghost use Rattle.composer.specs.Sizes.{ItemRight};
 
 use crate::Item;
+use crate::checked::Checked;
 use register::Group;
 
-// A group's header, and behind it the items of the group in order; answers where they end.
-pub(crate) fn write_group(
-    group: Group,
-    octets: usize,
-    items: &[Item],
-    values: &[u8],
-    out: &mut [u8],
-    start: usize,
-) -> usize
-    requires each { AllByRecursion (ItemRight values.now) items.now }
-    requires sum { octets ≡ group_size group (params_of items.now values.now) }
-    requires some { 0 < octets }
-    requires few { octets ≤ 65535 }
-    requires room { start + 3 + octets ≤ length out.old }
-    ensures end { result ≡ start + 3 + octets }
-    ensures put { Put start (group_octets group (of_group group (params_of items.now values.now))) out.old out.new }
-{
-    out[start] = group.octet();
-    out[start + 1] = (octets / 256) as u8;
-    out[start + 2] = (octets % 256) as u8;
-    let mut end = start + 3;
-    for item in items {
-        if item.group == group.octet() {
-            end = write_item(item, values, out, end);
+impl Checked<'_> {
+    // How many octets the field has.
+    pub(crate) fn length(&self) -> usize
+        ensures { result ≡ length (field_octets (params self.now)) }
+    {
+        1 + self.group_length(Group::Public) + self.group_length(Group::Private)
+    }
+
+    // A group with its header; nothing where no item is of the group.
+    fn group_length(&self, group: Group) -> usize
+        ensures { result ≡ length (group_of self.now group) }
+    {
+        match self.totals.of(group) {
+            0 => 0,
+            octets => 3 + octets,
         }
     }
-    end
-}
 
-// Identifier, length and value; answers where they end.
-fn write_item(item: &Item, values: &[u8], out: &mut [u8], start: usize) -> usize
-    requires right { ItemRight values.now item.now }
-    requires room { start + (2 + item.now.length) ≤ length out.old }
-    ensures end { result ≡ start + (2 + item.now.length) }
-    ensures put { Put start (param_octets (param_of values.now item.now)) out.old out.new }
-{
-    let end = start + 2 + item.length;
-    out[start] = item.identifier;
-    out[start + 1] = item.length as u8;
-    out[start + 2..end].copy_from_slice(&values[item.place..item.place + item.length]);
-    end
+    // A group's header, and behind it the items of the group in order; nothing where there are none. Answers how many octets.
+    pub(crate) fn write_group(&self, group: Group, out: &mut [u8]) -> usize
+        requires room { length (group_of self.now group) ≤ length out.old }
+        ensures end { result ≡ length (group_of self.now group) }
+        ensures written { out.new ≡ over (group_of self.now group) out.old }
+    {
+        let octets = self.totals.of(group);
+        if octets == 0 {
+            return 0;
+        }
+        let [high, low] = (octets as u16).to_be_bytes();
+        out[0] = group.octet();
+        out[1] = high;
+        out[2] = low;
+        let mut end = 3;
+        for item in self.items {
+            if item.group == group.octet() {
+                end += self.write_item(item, &mut out[end..]);
+            }
+        }
+        end
+    }
+
+    // Identifier, length and value; answers how many octets.
+    fn write_item(&self, item: &Item, out: &mut [u8]) -> usize
+        requires right { ItemRight self.now.values.now item.now }
+        requires room { 2 + item.now.length ≤ length out.old }
+        ensures end { result ≡ 2 + item.now.length }
+        ensures written { out.new ≡ over (param_octets (param_of self.now.values.now item.now)) out.old }
+    {
+        let end = 2 + item.length;
+        out[0] = item.identifier;
+        out[1] = item.length as u8;
+        out[2..end].copy_from_slice(&self.values[item.place..item.place + item.length]);
+        end
+    }
 }

@@ -1,13 +1,19 @@
 // Composing: what is written, every refusal at its edge and in its order, and that a refusal leaves the output.
 #[cfg(test)]
 mod tests {
-    use composer::{Item, compose};
+    use composer::{ComposeError, Item, compose};
     use std::process::Abort;
     use std::test::Fail;
     use xid::count_parameters;
 
     // The set identification's value, a position, and then fill.
     const VALUES: [u8; 260] = [0; 260];
+
+    const OUTSIDE: ComposeError = ComposeError::ValueOutside { item: 0 };
+
+    const ORDER: ComposeError = ComposeError::GroupOrder { item: 0 };
+
+    const UNREADABLE: ComposeError = ComposeError::Unreadable { item: 0 };
 
     const fn item(group: u8, identifier: u8, place: usize, length: usize) -> Item {
         Item {
@@ -18,33 +24,31 @@ mod tests {
         }
     }
 
-    // Refused with this number in an output of 2,100 octets, which stays as it was.
-    fn refuses(rt: &impl Abort, items: &[Item], number: u8) -> Result<(), Fail> {
+    // Refused in an output of 2,100 octets, which stays as it was.
+    fn refuses(rt: &impl Abort, items: &[Item], error: ComposeError) {
         let mut out = [7; 2100];
-        match compose(items, &VALUES, &mut out) {
-            Ok(_) => return Err(Fail::new("composed")),
-            Err(e) => assert!(rt; e.number() == number),
-        }
+        assert_eq!(rt; compose(items, &VALUES, &mut out), Err(error));
         assert!(rt; out == [7; 2100]);
-        Ok(())
     }
 
     // Composed with this length, and read back as so many parameters.
     fn composes(rt: &impl Abort, items: &[Item], length: usize, count: usize) -> Result<(), Fail> {
         let mut out = [7; 2100];
-        match compose(items, &VALUES, &mut out) {
-            Err(_) => Err(Fail::new("refused")),
-            Ok(n) => {
-                assert!(rt; n == length && n < 2100);
-                assert!(rt; out[n] == 7);
-                match count_parameters(&out[..n]) {
-                    Ok(read) => {
-                        assert!(rt; read == count);
-                        Ok(())
-                    },
-                    Err(_) => Err(Fail::new("not read")),
-                }
-            }
+        let n = compose(items, &VALUES, &mut out)?;
+        assert!(rt; n == length && n < 2100);
+        assert_eq!(rt; out[n], 7);
+        assert_eq!(rt; count_parameters(&out[..n]).ok(), Some(count));
+        Ok(())
+    }
+
+    #[test]
+    fn numbers(rt: HostRuntime) {
+        assert_eq!(rt; ComposeError::TooManyItems.number(), 51);
+        assert_eq!(rt; ComposeError::TooLong.number(), 55);
+        for item in [0, 1] {
+            assert_eq!(rt; ComposeError::ValueOutside { item }.number(), 52);
+            assert_eq!(rt; ComposeError::GroupOrder { item }.number(), 53);
+            assert_eq!(rt; ComposeError::Unreadable { item }.number(), 54);
         }
     }
 
@@ -57,10 +61,7 @@ mod tests {
             item(0xF0, 0x84, 1, 4),
         ];
         let mut out = [7; 20];
-        match compose(&items, &values, &mut out) {
-            Ok(n) => assert!(rt; n == 19),
-            Err(_) => return Err(Fail::new("refused")),
-        }
+        assert_eq!(rt; compose(&items, &values, &mut out)?, 19);
         assert!(rt;
             out == [
                 0x82, 0x80, 0, 3, 0x07, 1, 9, 0xF0, 0, 9, 0x00, 1, 0x56, 0x84, 4, 0xEA, 0xD5, 0xE8,
@@ -75,7 +76,12 @@ mod tests {
         composes(&rt, &[], 1, 0)?;
         composes(&rt, &[item(0x80, 0x33, 260, 0)], 6, 1)?;
         composes(&rt, &[item(0xF0, 0x33, 0, 0); 255], 514, 255)?;
-        refuses(&rt, &[item(0xF0, 0x33, 0, 0); 256], 51)
+        refuses(
+            &rt,
+            &[item(0xF0, 0x33, 0, 0); 256],
+            ComposeError::TooManyItems,
+        );
+        Ok(())
     }
 
     #[test]
@@ -84,7 +90,8 @@ mod tests {
         items[7] = item(0x80, 0x33, 0, 247);
         composes(&rt, &items, 2052, 8)?;
         items[7] = item(0x80, 0x33, 0, 248);
-        refuses(&rt, &items, 55)
+        refuses(&rt, &items, ComposeError::TooLong);
+        Ok(())
     }
 
     #[test]
@@ -93,32 +100,38 @@ mod tests {
         let mut exact = [7; 7];
         let mut short = [7; 6];
         assert!(rt; compose(&items, &VALUES, &mut exact).is_ok());
-        match compose(&items, &VALUES, &mut short) {
-            Ok(_) => return Err(Fail::new("composed")),
-            Err(e) => assert!(rt; e.number() == 55),
-        }
+        let refused = compose(&items, &VALUES, &mut short);
+        assert_eq!(rt; refused, Err(ComposeError::TooLong));
         assert!(rt; short == [7; 6]);
         Ok(())
     }
 
     #[test]
     fn values(rt: HostRuntime) -> Result<(), Fail> {
-        refuses(&rt, &[item(0x80, 0x33, 261, 0)], 52)?;
-        refuses(&rt, &[item(0x80, 0x33, 6, 255)], 52)?;
-        refuses(&rt, &[item(0x80, 0x33, 0, 256)], 52)?;
-        refuses(&rt, &[item(0x80, 0x33, usize::MAX, usize::MAX)], 52)?;
+        refuses(&rt, &[item(0x80, 0x33, 261, 0)], OUTSIDE);
+        refuses(&rt, &[item(0x80, 0x33, 6, 255)], OUTSIDE);
+        refuses(&rt, &[item(0x80, 0x33, 0, 256)], OUTSIDE);
+        refuses(&rt, &[item(0x80, 0x33, usize::MAX, usize::MAX)], OUTSIDE);
         composes(&rt, &[item(0x80, 0x33, 5, 255)], 261, 1)
     }
 
     #[test]
-    fn groups_and_parameters(rt: HostRuntime) -> Result<(), Fail> {
-        refuses(&rt, &[item(0x81, 0x33, 0, 0)], 53)?;
-        refuses(&rt, &[item(0xF0, 0x33, 0, 0), item(0x80, 0x33, 0, 0)], 53)?;
-        refuses(&rt, &[item(0x80, 0x07, 0, 2)], 54)?;
-        refuses(&rt, &[item(0xF0, 0x00, 0, 1)], 54)?;
-        // within an item 52, 53, 54; the first item's refusal before the second's
-        refuses(&rt, &[item(0x81, 0x07, 261, 2)], 52)?;
-        refuses(&rt, &[item(0x81, 0x07, 0, 2)], 53)?;
-        refuses(&rt, &[item(0x80, 0x07, 0, 2), item(0x80, 0x33, 261, 0)], 54)
+    fn groups_and_parameters(rt: HostRuntime) {
+        refuses(&rt, &[item(0x81, 0x33, 0, 0)], ORDER);
+        refuses(
+            &rt,
+            &[item(0xF0, 0x33, 0, 0), item(0x80, 0x33, 0, 0)],
+            ComposeError::GroupOrder { item: 1 },
+        );
+        refuses(&rt, &[item(0x80, 0x07, 0, 2)], UNREADABLE);
+        refuses(&rt, &[item(0xF0, 0x00, 0, 1)], UNREADABLE);
+        // within an item the value's place, the order, the value; the first item's refusal before the second's
+        refuses(&rt, &[item(0x81, 0x07, 261, 2)], OUTSIDE);
+        refuses(&rt, &[item(0x81, 0x07, 0, 2)], ORDER);
+        refuses(
+            &rt,
+            &[item(0x80, 0x07, 0, 2), item(0x80, 0x33, 261, 0)],
+            UNREADABLE,
+        );
     }
 }

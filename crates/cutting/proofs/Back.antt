@@ -13,27 +13,25 @@ back s k = reverse (take k s)
 pub back_suc : (s : Bits) (k : ℕ) → k < length s → back s (suc k) ≡ get_or s k false ∷ back s k
 back_suc s k h = ap {B = Bits} reverse (take-suc s k false h) ∙ reverse-append (take k s) (get_or s k false ∷ [])
 
--- the first m of a row read backwards are its last m
-take-reverse : (m : ℕ) (l : Bits) → m ≤ length l → take m (reverse l) ≡ reverse (drop (length l - m) l)
-take-reverse m l h =
-    let a : Bits = take (length l - m) l in
-    let b : Bits = drop (length l - m) l in
-    let whole : a ++ b ≡ l = take-append-drop (length l - m) l in
-    let turned : reverse l ≡ reverse b ++ reverse a = ap {B = Bits} reverse (sym whole) ∙ reverse-append a b in
-    let long : length (reverse b) ≡ m = length-reverse b ∙ length-drop (length l - m) l ∙ omega arith in
-    ap {B = Bits} (take m) turned ∙ take_at (reverse b) (reverse a) m long
+-- a row read backwards: its last m, then what stands before them
+module _ (m : ℕ) (l : Bits) (h : m ≤ length l) where
+  turned : reverse l ≡ reverse (drop (length l - m) l) ++ reverse (take (length l - m) l)
+  turned = ap {B = Bits} reverse (sym (take-append-drop (length l - m) l)) ∙ reverse-append (take (length l - m) l) (drop (length l - m) l)
+
+  last-long : length (reverse (drop (length l - m) l)) ≡ m
+  last-long = length-reverse (drop (length l - m) l) ∙ length-drop (length l - m) l ∙ omega arith
+
+  take-reverse : take m (reverse l) ≡ reverse (drop (length l - m) l)
+  take-reverse = ap {B = Bits} (take m) turned ∙ take_at _ _ m last-long
+
+  drop-reverse-within : drop m (reverse l) ≡ reverse (take (length l - m) l)
+  drop-reverse-within = ap {B = Bits} (drop m) turned ∙ drop_at _ _ m last-long
 
 pub drop-reverse : (m : ℕ) (l : Bits) → drop m (reverse l) ≡ reverse (take (length l - m) l)
 drop-reverse m l = go (dec_le m (length l))
   where
     go : Dec (m ≤ length l) → drop m (reverse l) ≡ reverse (take (length l - m) l)
-    go (yes h) =
-        let a : Bits = take (length l - m) l in
-        let b : Bits = drop (length l - m) l in
-        let whole : a ++ b ≡ l = take-append-drop (length l - m) l in
-        let turned : reverse l ≡ reverse b ++ reverse a = ap {B = Bits} reverse (sym whole) ∙ reverse-append a b in
-        let long : length (reverse b) ≡ m = length-reverse b ∙ length-drop (length l - m) l ∙ omega arith in
-        ap {B = Bits} (drop m) turned ∙ drop_at (reverse b) (reverse a) m long
+    go (yes h) = drop-reverse-within m l h
     go (no h) =
         let z : 0 ≡ length l - m = omega arith in
         let n : length (reverse l) ≡ length l = length-reverse l in

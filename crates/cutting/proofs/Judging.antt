@@ -1,8 +1,9 @@
 -- The verdict on a closed stretch as a function: the relation holds of that verdict and of no other.
-use Rattle.std.proofs.Common.{◌≡◌, ℕ, zero, suc, ◌-◌, ◌%◌, ◌<◌, cond, eqb, ◌↔◌, List, [], ◌∷◌, ◌++◌, length, take, sym, refl, ap, ◌∙◌, subst, arith, length-append, take_at}
+use Rattle.std.proofs.Common.{◌≡◌, ℕ, ◌-◌, ◌%◌, ◌<◌, cond, eqb, ◌↔◌, List, ◌++◌, length, take, sym, refl, ap, ◌∙◌, subst, arith, length-append, take_at}
 use mathlib.Core.Bool.{Bool-discrete}
 use mathlib.Core.List.{List-discrete}
 use native.Mathlib.Decide.{dec_lt, ℕ_discrete}
+use Rattle.std.proofs.ByRecursion.{All-append, All-take}
 use Rattle.bits.specs.Octets.{sent}
 use Rattle.bits.proofs.Values.{octets_of, octets_of_below, octets_of-sent}
 use Rattle.fcs.specs.Sequence.{trailer}
@@ -12,21 +13,12 @@ use Rattle.cutting.specs.Cutting.{Bits, part, ones, removed, Octets, Applies, Ve
 use Rattle.cutting.specs.declared.Fault.{Fault}
 use Rattle.cutting.specs.declared.Fault.TheVariants.{MissingZero, TooLong, NotOctets, TooShort, WrongSequence}
 
-pub octets_append : (os ps : List ℕ) → Octets os → Octets ps → Octets (os ++ ps)
-octets_append [] ps h k = k
-octets_append (o ∷ os) ps h k = (h.0, octets_append os ps h.1 k)
-
-pub octets_take : (n : ℕ) (os : List ℕ) → Octets os → Octets (take n os)
-octets_take zero os h = tt
-octets_take (suc n) [] h = tt
-octets_take (suc n) (o ∷ os) h = (h.0, octets_take n os h.1)
-
 -- octets with the two of their check sequence behind them
 abbrev pub checked : List ℕ → List ℕ
 checked os = os ++ trailer os
 
 pub checked_octets : (os : List ℕ) → Octets os → Octets (checked os)
-checked_octets os h = octets_append os (trailer os) h (trailer_below os)
+checked_octets os h = All-append (λ o. o < 256) os (trailer os) h (trailer_below os)
 
 -- octets without the last two
 abbrev pub front : List ℕ → List ℕ
@@ -44,7 +36,7 @@ framed kept = front (octets_of kept)
 
 pub framed_octets : (kept : Bits) → Octets (framed kept)
 unfolding framed
-framed_octets kept = octets_take (length (octets_of kept) - 2) (octets_of kept) (octets_of_below kept)
+framed_octets kept = All-take (λ o. o < 256) (length (octets_of kept) - 2) (octets_of kept) (octets_of_below kept)
 
 pub framed-sent : (os : List ℕ) → Octets os → framed (sent (checked os)) ≡ os
 unfolding framed

@@ -125,7 +125,7 @@ sound (x ∷ r) = sound_step (state_of r) (sound r) x
 pub in_stretch : (r raw : Bits) (k : ℕ) → state_of r ≡ inside raw k → InStretch raw k
 in_stretch r raw k e = subst Sound e (sound r)
 
-zero_of : (n : ℕ) → is_zero n ≡ true → n ≡ 0
+pub zero_of : (n : ℕ) → is_zero n ≡ true → n ≡ 0
 zero_of zero e = refl
 zero_of (suc n) e = let z : ◌≡◌ {A = ℕ} 0 1 = cc in absurd (omega arith)
 

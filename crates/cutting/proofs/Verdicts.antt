@@ -1,5 +1,6 @@
 -- The verdict on a closed stretch from what is known of it, refusal by refusal.
 use Rattle.std.proofs.Common.{◌≡◌, ℕ, ◌-◌, ◌*◌, ◌%◌, ◌<◌, ◌≤◌, ◌≢◌, List, ◌++◌, length, drop, sym, ap, ◌∙◌, arith, length-append, take-append-drop, drop_at}
+use Rattle.std.proofs.ByRecursion.{All-take}
 use Rattle.bits.specs.Octets.{sent}
 use Rattle.bits.proofs.Sent.{length-sent}
 use Rattle.bits.proofs.Values.{sent_injective}
@@ -9,7 +10,7 @@ use Rattle.cutting.specs.Faults.{fault_number}
 use Rattle.cutting.specs.Cutting.{Bits, removed, Octets, Applies, Verdict, refused, frame, refuses, frames}
 use Rattle.cutting.specs.declared.Fault.{Fault}
 use Rattle.cutting.specs.declared.Fault.TheVariants.{MissingZero, TooLong, NotOctets, TooShort, WrongSequence}
-use Rattle.cutting.proofs.Judging.{checked, checked_octets, front, front-checked, octets_take, before, judged, judged_one}
+use Rattle.cutting.proofs.Judging.{checked, checked_octets, front, front-checked, before, judged, judged_one}
 
 pub judged_missing : (x : Bits) → Applies MissingZero x → judged x ≡ refused MissingZero
 judged_missing x a = judged_one x (refused MissingZero) (refuses MissingZero a
@@ -41,7 +42,7 @@ module _ (x : Bits) (whole : Applies MissingZero x → ⊥) where
     judged-right e =
         let same : os ≡ checked (front os) = sym (take-append-drop (length os - 2) os) ∙ ap {B = List ℕ} (λ (l : List ℕ). front os ++ l) e in
         let r : removed x ≡ sent (checked (front os)) = is ∙ ap {B = Bits} sent same in
-        let o = octets_take (length os - 2) os each in
+        let o = All-take (λ o. o < 256) (length os - 2) os each in
         judged_one x (frame (front os)) (frames (front os) (nothing r o) o r)
       where
         nothing : removed x ≡ sent (checked (front os)) → Octets (front os) → (f : Fault) → Applies f x → ⊥

@@ -7,26 +7,20 @@ ghost use Rattle.cutting.specs.Laws.{DueIsOne, AllDueIsOne, AllDueIsAll, Cutting
 ghost use Rattle.cutting.specs.StuffingLaws.{StuffingIsUndone, StuffingPartsOnes, StuffingFits, PutIsCut, PutApart};
 
 // Why a stretch that a flag closed is no frame.
-#[derive(Clone, Copy)]
+#[derive(Clone, Copy, PartialEq, Eq, Debug)]
 pub enum Fault {
-    MissingZero,
-    TooLong,
-    NotOctets,
-    TooShort,
-    WrongSequence,
+    MissingZero = 11,
+    TooLong = 12,
+    NotOctets = 13,
+    TooShort = 14,
+    WrongSequence = 15,
 }
 
 impl Fault {
     pub fn number(self) -> u8
         ensures { result ≡ fault_number self }
     {
-        match self {
-            Fault::MissingZero => 11,
-            Fault::TooLong => 12,
-            Fault::NotOctets => 13,
-            Fault::TooShort => 14,
-            Fault::WrongSequence => 15,
-        }
+        self as u8
     }
 }
 

@@ -5,7 +5,7 @@ ghost use Rattle.std.specs.Prelude.{◌≡◌};
 ghost use Rattle.faults.specs.Faults.{parameter_number, parameter_place, exchange_number, exchange_place, frame_number, frame_place, ParameterInside, ExchangeInside};
 
 // Why a frame's octets are not taken; a place is an octet's, counted from 0.
-#[derive(Clone, Copy)]
+#[derive(Clone, Copy, PartialEq, Eq, Debug)]
 pub enum FrameFault {
     Length { octets: usize },
     DestinationMark { place: usize },
@@ -17,7 +17,7 @@ pub enum FrameFault {
 }
 
 // Why an exchange field is not taken; a place is the first octet of the group or parameter, counted in the information.
-#[derive(Clone, Copy)]
+#[derive(Clone, Copy, PartialEq, Eq, Debug)]
 pub enum ExchangeFault {
     NoLeading,
     ShortGroup { place: usize },
@@ -29,7 +29,7 @@ pub enum ExchangeFault {
 }
 
 // Why a parameter's value is not taken.
-#[derive(Clone, Copy)]
+#[derive(Clone, Copy, PartialEq, Eq, Debug)]
 pub enum ParameterFault {
     WrongLength { place: usize },
     WrongValue { place: usize },
@@ -40,8 +40,8 @@ impl ParameterFault {
         ensures { result ≡ parameter_number self }
     {
         match self {
-            ParameterFault::WrongLength { place: _ } => 37,
-            ParameterFault::WrongValue { place: _ } => 38,
+            ParameterFault::WrongLength { .. } => 37,
+            ParameterFault::WrongValue { .. } => 38,
         }
     }
 
@@ -49,8 +49,7 @@ impl ParameterFault {
         ensures { result ≡ parameter_place self }
     {
         match self {
-            ParameterFault::WrongLength { place } => place,
-            ParameterFault::WrongValue { place } => place,
+            ParameterFault::WrongLength { place } | ParameterFault::WrongValue { place } => place,
         }
     }
 }
@@ -61,11 +60,11 @@ impl ExchangeFault {
     {
         match self {
             ExchangeFault::NoLeading => 31,
-            ExchangeFault::ShortGroup { place: _ } => 32,
-            ExchangeFault::OtherGroup { place: _ } => 33,
-            ExchangeFault::GroupOrder { place: _ } => 34,
-            ExchangeFault::GroupBeyond { place: _ } => 35,
-            ExchangeFault::ParameterBeyond { place: _ } => 36,
+            ExchangeFault::ShortGroup { .. } => 32,
+            ExchangeFault::OtherGroup { .. } => 33,
+            ExchangeFault::GroupOrder { .. } => 34,
+            ExchangeFault::GroupBeyond { .. } => 35,
+            ExchangeFault::ParameterBeyond { .. } => 36,
             ExchangeFault::Parameter { fault } => fault.number(),
         }
     }
@@ -75,11 +74,11 @@ impl ExchangeFault {
     {
         match self {
             ExchangeFault::NoLeading => 0,
-            ExchangeFault::ShortGroup { place } => place,
-            ExchangeFault::OtherGroup { place } => place,
-            ExchangeFault::GroupOrder { place } => place,
-            ExchangeFault::GroupBeyond { place } => place,
-            ExchangeFault::ParameterBeyond { place } => place,
+            ExchangeFault::ShortGroup { place }
+            | ExchangeFault::OtherGroup { place }
+            | ExchangeFault::GroupOrder { place }
+            | ExchangeFault::GroupBeyond { place }
+            | ExchangeFault::ParameterBeyond { place } => place,
             ExchangeFault::Parameter { fault } => fault.place(),
         }
     }
@@ -90,10 +89,10 @@ impl FrameFault {
         ensures { result ≡ frame_number self }
     {
         match self {
-            FrameFault::Length { octets: _ } => 21,
-            FrameFault::DestinationMark { place: _ } => 22,
-            FrameFault::SourceMark { place: _ } => 23,
-            FrameFault::UnlistedType { place: _ } => 24,
+            FrameFault::Length { .. } => 21,
+            FrameFault::DestinationMark { .. } => 22,
+            FrameFault::SourceMark { .. } => 23,
+            FrameFault::UnlistedType { .. } => 24,
             FrameFault::UnlistedControl => 25,
             FrameFault::UnsuitedInformation => 26,
             FrameFault::Exchange { fault } => fault.number(),
@@ -106,9 +105,9 @@ impl FrameFault {
     {
         match self {
             FrameFault::Length { octets } => octets,
-            FrameFault::DestinationMark { place } => place,
-            FrameFault::SourceMark { place } => place,
-            FrameFault::UnlistedType { place } => place,
+            FrameFault::DestinationMark { place }
+            | FrameFault::SourceMark { place }
+            | FrameFault::UnlistedType { place } => place,
             FrameFault::UnlistedControl => 8,
             FrameFault::UnsuitedInformation => 9,
             FrameFault::Exchange { fault } => fault.place(),

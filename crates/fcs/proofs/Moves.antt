@@ -1,6 +1,6 @@
 -- The table's rule, tested at all 256 entries at once, and the step by a whole octet that it gives.
-use Rattle.std.proofs.Common.{◌≡◌, ℕ, zero, suc, ◌+◌, ◌*◌, ◌/◌, ◌%◌, ◌^◌, ◌<◌, Bool, true, false, ◌&&◌, T, eqb, List, [], ◌∷◌, length, get_or, sym, ap, ◌∙◌, add-zero, add-suc, mod-eq_of_lt, suc-add, zero-add, arith, eqb→eq}
-use lib.Bits.{bit_xor, bit_and, xor_zero_r, xor_self, xor_assoc, xor_shifted, xor_mod, xor_lt, and_mask}
+use Rattle.std.proofs.Common.{◌≡◌, ℕ, zero, suc, ◌+◌, ◌*◌, ◌/◌, ◌%◌, ◌^◌, ◌<◌, Bool, true, false, ◌&&◌, T, eqb, List, [], ◌∷◌, length, get_or, sym, ap, ◌∙◌, add-zero, add-suc, suc-add, zero-add, arith, eqb→eq}
+use lib.Bits.{bit_xor, xor_zero_r, xor_self, xor_assoc, xor_shifted, xor_lt}
 use Rattle.bits.specs.Octets.{low}
 use Rattle.fcs.specs.Sequence.{after}
 use Rattle.fcs.specs.Table.{OctetMoves}
@@ -36,16 +36,12 @@ halves v =
     let whole : v ≡ v / 256 * 256 + v % 256 = omega arith in
     whole ∙ sym (xor_shifted (v / 256) 8 (v % 256) small)
 
-index : (v o : ℕ) → o < 256 → bit_and (bit_xor v o) 255 ≡ bit_xor (v % 256) o
-index v o h = and_mask (bit_xor v o) 8 ∙ xor_mod v o 8 ∙ ap (bit_xor (v % 256)) (mod-eq_of_lt h)
-
 -- one octet: the table's entry at the octet combined with the low half, combined with the high half
 pub octet_step : (xs : List ℕ) (v o : ℕ) → T (OctetMoves 0 xs) → length xs ≡ 256 → o < 256
-    → bit_xor (v / 256) (get_or xs (bit_and (bit_xor v o) 255) 0) ≡ after v (low 8 o)
+    → bit_xor (v / 256) (get_or xs (bit_xor (v % 256) o) 0) ≡ after v (low 8 o)
 octet_step xs v o t n h =
     let low_half : v % 256 < 2 ^ 8 = omega arith in
     let within : bit_xor (v % 256) o < length xs = omega (arith, xor_lt 8 (v % 256) o low_half h) in
-    ap (λ i. bit_xor (v / 256) (get_or xs i 0)) (index v o h)
-    ∙ ap (bit_xor (v / 256)) (entry xs (bit_xor (v % 256) o) t within ∙ sym (combined (v % 256) o h))
+    ap (bit_xor (v / 256)) (entry xs (bit_xor (v % 256) o) t within ∙ sym (combined (v % 256) o h))
     ∙ ap (λ n. bit_xor n (after (v % 256) (low 8 o))) (sym (after_high 8 (v / 256)))
     ∙ sym (ap (λ n. after n (low 8 o)) (halves v) ∙ after_xor 8 (v / 256 * 2 ^ 8) (v % 256) 0 o)

@@ -11,7 +11,7 @@ use crate::octet_moves::OCTET_MOVES;
 mod octet_moves;
 
 // The register behind the octets sent so far.
-#[derive(Clone, Copy)]
+#[derive(Clone, Copy, PartialEq, Eq, Debug)]
 pub struct Register {
     value: u16,
 }
@@ -54,5 +54,6 @@ fn moved_by(moves: &[u16; 256], value: u16, octet: u8) -> u16
     requires { T (OctetMoves 0 moves.now) }
     ensures { result ≡ after value (low 8 octet) }
 {
-    (value >> 8) ^ moves[((value ^ octet as u16) & 0xFF) as usize]
+    let [low, high] = value.to_le_bytes();
+    u16::from(high) ^ moves[usize::from(low ^ octet)]
 }

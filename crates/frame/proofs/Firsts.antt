@@ -100,7 +100,7 @@ module _ (os : List ℕ) where
               wrong = none;
               first = λ g w. elim (control-left g w) [ inl e ↦ rw e (inr (refl, lit≤ tt)) | inr e ↦ rw e (inl (lit< tt)) ];
             })
-        first-at-control f (inr (is, (c, (numbered, octet, unsuited)))) =
+        first-at-control f (inr (is, (c, ((numbered, octet), unsuited)))) =
             rw is
             (record {
               wrong = (c, (numbered, octet, rw (length_rest os) at unsuited));

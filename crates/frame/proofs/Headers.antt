@@ -67,7 +67,7 @@ module _ (os : List ℕ) where
       → (a b : Addressed) → AddressRead (four os 0) (Some a) → AddressRead (four os 4) (Some b)
       → (c : Control) → ControlTaken (get_or os 8 0) (length (rest os)) (Ok c)
       → Layable (said os a b c) × (layout (said os a b c) ≡ os)
-  read_is_frame long short below a b to from c (numbered, octet, suits) = (
+  read_is_frame long short below a b to from c ((numbered, octet), suits) = (
     record {
       destination = to.0;
       source = from.0;

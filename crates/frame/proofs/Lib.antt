@@ -1,4 +1,5 @@
 pub mod ControlOctets
+pub mod Digits
 pub mod Firsts
 pub mod Headers
 pub mod Layouts

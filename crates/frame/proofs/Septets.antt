@@ -1,11 +1,11 @@
 -- Octets of seven bits and a mark: every value of the seven bits, and every octet, tested by tests that are computed.
-use Rattle.std.proofs.Common.{◌≡◌, ℕ, ◌%◌, ◌<◌, Bool, true, false, cond, T, eqb, ◌∷◌, reverse, sym, ap, ◌∙◌, arith, eqb→eq}
+use Rattle.std.proofs.Common.{◌≡◌, ℕ, ◌%◌, ◌<◌, Bool, true, false, cond, eqb, ◌∷◌, reverse, sym, refl, ap, ◌∙◌, arith}
 use lib.Bits.{bit_and, bit_or}
 use mir.Val.{bool_byte}
 use Rattle.std.specs.Int.{reverse_bits_onto}
+use Rattle.std.proofs.lemmas.Bool.{eqb-true, agree_below, agree_below_at}
 use Rattle.bits.specs.Octets.{low, value}
 use Rattle.bits.proofs.Low.{low_mod}
-use Rattle.bits.proofs.OneBit.{all_below, below}
 use Rattle.bits.proofs.Values.{value_below}
 use Rattle.frame.specs.Addresses.{septet}
 
@@ -25,19 +25,19 @@ taken_right mark g = eqb (taken (septet mark g)) g
 read_right : ℕ → Bool
 read_right o = eqb (septet (eqb (o % 2) 1) (taken o)) o
 
-all_made : (mark : Bool) → T (all_below (made_right mark) 128)
+all_made : (mark : Bool) → agree_below (made_right mark) (λ n. true) 128 ≡ true
 unfolding made_right septet low value reverse_bits_onto
-all_made true = tt
-all_made false = tt
+all_made true = refl
+all_made false = refl
 
-all_taken : (mark : Bool) → T (all_below (taken_right mark) 128)
+all_taken : (mark : Bool) → agree_below (taken_right mark) (λ n. true) 128 ≡ true
 unfolding taken_right septet low value reverse_bits_onto
-all_taken true = tt
-all_taken false = tt
+all_taken true = refl
+all_taken false = refl
 
-all_read : T (all_below read_right 256)
+all_read : agree_below read_right (λ n. true) 256 ≡ true
 unfolding read_right septet low value reverse_bits_onto
-all_read = tt
+all_read = refl
 
 -- what lies above seven bits does not matter
 pub septet_mod : (mark : Bool) (n : ℕ) → septet mark (n % 128) ≡ septet mark n
@@ -56,16 +56,16 @@ septet-odd false n = omega arith
 
 pub septet-made : (mark : Bool) (n : ℕ) → made mark (n % 128) ≡ septet mark n
 unfolding made_right
-septet-made mark n = eqb→eq _ _ (below (made_right mark) 128 (all_made mark) (n % 128) (omega arith)) ∙ septet_mod mark n
+septet-made mark n = eqb-true _ _ (agree_below_at (made_right mark) (λ n. true) 128 (n % 128) (all_made mark) (omega arith)) ∙ septet_mod mark n
 
 pub taken-septet : (mark : Bool) (n : ℕ) → taken (septet mark n) ≡ n % 128
 unfolding taken_right
 taken-septet mark n =
-    sym (ap taken (septet_mod mark n)) ∙ eqb→eq _ _ (below (taken_right mark) 128 (all_taken mark) (n % 128) (omega arith))
+    sym (ap taken (septet_mod mark n)) ∙ eqb-true _ _ (agree_below_at (taken_right mark) (λ n. true) 128 (n % 128) (all_taken mark) (omega arith))
 
 pub septet-taken : (o : ℕ) → o < 256 → septet (eqb (o % 2) 1) (taken o) ≡ o
 unfolding read_right
-septet-taken o h = eqb→eq _ _ (below read_right 256 all_read o h)
+septet-taken o h = eqb-true _ _ (agree_below_at read_right (λ n. true) 256 o all_read h)
 
 -- so the octet tells the seven bits
 pub septet_one : (mark : Bool) (m n : ℕ) → septet mark m ≡ septet mark n → m % 128 ≡ n % 128

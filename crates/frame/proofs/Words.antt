@@ -1,12 +1,18 @@
 -- The number of 28 bits that an address and its status make up: what its four octets tell of it.
-use Rattle.std.proofs.Common.{◌≡◌, ℕ, zero, suc, ◌+◌, ◌*◌, ◌/◌, ◌%◌, ◌<◌, Bool, true, false, cond, eqb, ◌≢◌, List, [], ◌∷◌, length, get_or, Some, None, sym, refl, ap, ◌∙◌, arith}
-use lib.Bits.{bit_and, and_mask}
+use Rattle.std.proofs.Common.{◌≡◌, ℕ, zero, suc, ◌+◌, ◌*◌, ◌/◌, ◌%◌, ◌<◌, Bool, true, false, cond, eqb, ◌≢◌, List, [], ◌∷◌, length, get_or, Some, None, Ok, Err, Option, Result, sym, refl, ap, ◌∙◌, arith, lit<}
+use Rattle.std.specs.Option.{is_some}
+use Rattle.std.specs.Result.{result_ok}
+use Rattle.std.proofs.lemmas.List.{take_all}
 use Rattle.std.specs.List.{AllByRecursion}
-use Rattle.frame.specs.Addresses.{type_bits, IsAddress, septet, word, address_octets, AddressRead}
+use Rattle.frame.specs.Addresses.{type_bits, IsAddress, septet, word, address_octets, Listed, AddressRead}
 use Rattle.frame.specs.Opening.{mark}
+use Rattle.frame.specs.Parts.{MarksRead}
 use Rattle.frame.specs.declared.address.Kind.{Kind}
 use Rattle.frame.specs.declared.address.Kind.TheVariants.{Aircraft, GroundAdministered, GroundDelegated, Broadcast}
 use Rattle.frame.specs.declared.address.Address.{Address}
+use Rattle.frame.specs.declared.address.AddressError.{AddressError}
+use Rattle.frame.proofs.Digits.{digit_below, digit_one}
+use Rattle.frame.proofs.Headers.{four-taken}
 use Rattle.frame.proofs.Septets.{septet_mod, septet_below, septet-odd, septet_one}
 
 type_below : (k : Kind) → type_bits k < 8
@@ -29,47 +35,24 @@ kind_back Broadcast = refl
 type_one : (j k : Kind) → type_bits j ≡ type_bits k → j ≡ k
 type_one j k e = sym (kind_back j) ∙ ap kind_of e ∙ kind_back k
 
-status_below : (s : Bool) → cond s 1 0 < 2
-status_below true = omega arith
-status_below false = omega arith
-
-status_one : (s t : Bool) → ◌≡◌ {A = ℕ} (cond s 1 0) (cond t 1 0) → s ≡ t
-status_one true true e = refl
-status_one true false e = absurd (omega arith)
-status_one false true e = absurd (omega arith)
-status_one false false e = refl
-
 word_below : (s : Bool) (a : Address) → IsAddress a → word s a < 268435456
-word_below s a h = omega (arith, status_below s, type_below a.kind)
+word_below s a h = omega (arith, digit_below s, type_below a.kind)
 
--- the parts that a word tells
-word_status : (s : Bool) (a : Address) → IsAddress a → word s a / 134217728 ≡ cond s 1 0
-word_status s a h = omega (arith, status_below s, type_below a.kind)
-
+-- the type bits that a word tells
 word_type : (s : Bool) (a : Address) → IsAddress a → word s a / 16777216 % 8 ≡ type_bits a.kind
-word_type s a h = omega (arith, status_below s, type_below a.kind)
-
-word_high : (s : Bool) (a : Address) → IsAddress a → word s a / 65536 % 256 ≡ a.high
-word_high s a h = omega (arith, status_below s, type_below a.kind)
-
-word_middle : (s : Bool) (a : Address) → IsAddress a → word s a / 256 % 256 ≡ a.middle
-word_middle s a h = omega (arith, status_below s, type_below a.kind)
-
-word_low : (s : Bool) (a : Address) → IsAddress a → word s a % 256 ≡ a.low
-word_low s a h = omega (arith, status_below s, type_below a.kind)
-
-same_parts : (j k : Kind) (h i l m n o : ℕ) → j ≡ k → h ≡ i → l ≡ m → n ≡ o
-    → ◌≡◌ {A = Address} (record { kind = j; high = h; middle = l; low = n }) (record { kind = k; high = i; middle = m; low = o })
-same_parts j k h i l m n o p q r t = cc
+word_type s a h = omega (arith, digit_below s, type_below a.kind)
 
 word_one : (s t : Bool) (a b : Address) → IsAddress a → IsAddress b → word s a ≡ word t b → (s ≡ t) × (a ≡ b)
 word_one s t a b h k e =
-    let status = status_one s t (sym (word_status s a h) ∙ ap (λ n. n / 134217728) e ∙ word_status t b k) in
-    let type = type_one a.kind b.kind (sym (word_type s a h) ∙ ap (λ n. n / 16777216 % 8) e ∙ word_type t b k) in
-    let high = sym (word_high s a h) ∙ ap (λ n. n / 65536 % 256) e ∙ word_high t b k in
-    let middle = sym (word_middle s a h) ∙ ap (λ n. n / 256 % 256) e ∙ word_middle t b k in
-    let low = sym (word_low s a h) ∙ ap (λ n. n % 256) e ∙ word_low t b k in
-    (status, same_parts a.kind b.kind a.high b.high a.middle b.middle a.low b.low type high middle low)
+    let m = digit_below s in
+    let n = digit_below t in
+    let p = type_below a.kind in
+    let q = type_below b.kind in
+    let kind = type_one a.kind b.kind (omega arith) in
+    let high : a.high ≡ b.high = omega arith in
+    let middle : a.middle ≡ b.middle = omega arith in
+    let low : a.low ≡ b.low = omega arith in
+    (digit_one s t (omega arith), λ i. record { kind = kind i; high = high i; middle = middle i; low = low i })
 
 -- a number of 28 bits, laid seven bits to an octet
 abbrev pub septets : ℕ → List ℕ
@@ -96,12 +79,10 @@ pub address_octets_one : (s t : Bool) (a b : Address) → IsAddress a → IsAddr
 address_octets_one s t a b h k e =
     word_one s t a b h k (septets_one (word s a) (word t b) (word_below s a h) (word_below t b k) e)
 
-septets_below : (w : ℕ) → AllByRecursion (λ o. o < 256) (septets w)
-septets_below w =
-    (septet_below false (w / 2097152), (septet_below false (w / 16384), (septet_below false (w / 128), (septet_below true w, tt))))
-
 pub address_octets_below : (s : Bool) (a : Address) → AllByRecursion (λ o. o < 256) (address_octets s a)
-address_octets_below s a = septets_below (word s a)
+address_octets_below s a =
+    let w = word s a in
+    (septet_below false (w / 2097152), (septet_below false (w / 16384), (septet_below false (w / 128), (septet_below true w, tt))))
 
 septets_marks : (w k : ℕ) → k < 4 → get_or (septets w) k 0 % 2 ≡ mark k
 septets_marks w zero h = septet-odd false (w / 2097152)
@@ -110,11 +91,8 @@ septets_marks w (suc (suc zero)) h = septet-odd false (w / 128)
 septets_marks w (suc (suc (suc zero))) h = septet-odd true w
 septets_marks w (suc (suc (suc (suc k)))) h = absurd (omega arith)
 
-pub address_marks : (s : Bool) (a : Address) (k : ℕ) → k < 4 → get_or (address_octets s a) k 0 % 2 ≡ mark k
-address_marks s a k h = septets_marks (word s a) k h
-
 pub laid_marks : (os : List ℕ) (s : Bool) (a : Address) → address_octets s a ≡ os → (k : ℕ) → k < 4 → get_or os k 0 % 2 ≡ mark k
-laid_marks os s a e k h = ap (λ l. get_or l k 0 % 2) (sym e) ∙ address_marks s a k h
+laid_marks os s a e k h = ap (λ l. get_or l k 0 % 2) (sym e) ∙ septets_marks (word s a) k h
 
 -- seven bits that stand behind an octet's mark
 abbrev Behind : ℕ → ℕ → Type 0
@@ -124,52 +102,55 @@ laid_digit : (m : Bool) (n g o : ℕ) → o % 2 ≡ cond m 1 0 → Behind o g �
 laid_digit true n g o odd b e = sym (septet_mod true n) ∙ ap (septet true) e ∙ rw odd at b.0
 laid_digit false n g o even b e = sym (septet_mod false n) ∙ ap (septet false) e ∙ rw even at b.0
 
-four : (os : List ℕ) → length os ≡ 4 → get_or os 0 0 ∷ get_or os 1 0 ∷ get_or os 2 0 ∷ get_or os 3 0 ∷ [] ≡ os
-four [] e = absurd (omega arith)
-four (a ∷ []) e = absurd (omega arith)
-four (a ∷ b ∷ []) e = absurd (omega arith)
-four (a ∷ b ∷ c ∷ []) e = absurd (omega arith)
-four (a ∷ b ∷ c ∷ d ∷ []) e = refl
-four (a ∷ b ∷ c ∷ d ∷ o ∷ os) e = absurd (omega arith)
-
 -- four octets whose marks are right are the layout of the number that their bits make up
 pub joined_laid : (os : List ℕ) {a b c d : ℕ} → length os ≡ 4
     → Behind (get_or os 0 0) a → Behind (get_or os 1 0) b → Behind (get_or os 2 0) c → Behind (get_or os 3 0) d
-    → get_or os 0 0 % 2 ≡ 0 → get_or os 1 0 % 2 ≡ 0 → get_or os 2 0 % 2 ≡ 0 → get_or os 3 0 % 2 ≡ 1
+    → ((k : ℕ) → k < 4 → get_or os k 0 % 2 ≡ mark k)
     → septets (((a * 128 + b) * 128 + c) * 128 + d) ≡ os
-joined_laid os {a} {b} {c} {d} n p q r t e f g h =
+joined_laid os {a} {b} {c} {d} n p q r t marks =
     let w : ℕ = ((a * 128 + b) * 128 + c) * 128 + d in
-    let first = laid_digit false (w / 2097152) a (get_or os 0 0) e p (omega arith) in
-    let second = laid_digit false (w / 16384) b (get_or os 1 0) f q (omega arith) in
-    let third = laid_digit false (w / 128) c (get_or os 2 0) g r (omega arith) in
-    let fourth = laid_digit true w d (get_or os 3 0) h t (omega arith) in
-    let whole = four os n in
+    let first = laid_digit false (w / 2097152) a (get_or os 0 0) (marks 0 (lit< tt)) p (omega arith) in
+    let second = laid_digit false (w / 16384) b (get_or os 1 0) (marks 1 (lit< tt)) q (omega arith) in
+    let third = laid_digit false (w / 128) c (get_or os 2 0) (marks 2 (lit< tt)) r (omega arith) in
+    let fourth = laid_digit true w d (get_or os 3 0) (marks 3 (lit< tt)) t (omega arith) in
+    let whole = sym (four-taken os 0 (omega arith)) ∙ take_all 4 os (omega arith) in
     cc
+
+-- no address is laid out with a wrong mark
+pub marks_wrong : (os : List ℕ) (r : Option ℕ) → MarksRead os r → is_some r ≡ true → AddressRead os None
+marks_wrong os (Some p) (few, wrong, before) e = λ s a h laid. wrong (laid_marks os s a laid p few)
+marks_wrong os None all e = absurd (cc)
+
+pub marks_right : (os : List ℕ) (r : Option ℕ) → MarksRead os r → is_some r ≡ false → (k : ℕ) → k < 4 → get_or os k 0 % 2 ≡ mark k
+marks_right os (Some p) h e = absurd (cc)
+marks_right os None all e = all
+
+-- the kind that type bits were read as, if any
+pub listed_some : (t : ℕ) (r : Result Kind AddressError) → Listed t r → {k : Kind} → result_ok r ≡ Some k → type_bits k ≡ t
+listed_some t (Ok k) h e = cc
+listed_some t (Err f) h e = absurd (cc)
+
+pub listed_none : (t : ℕ) (r : Result Kind AddressError) → Listed t r → result_ok r ≡ None → (k : Kind) → type_bits k ≢ t
+listed_none t (Ok k) h e = absurd (cc)
+listed_none t (Err f) h e = h.1
 
 module _ (os : List ℕ) (w : ℕ) (laid : septets w ≡ os) (few : w < 268435456) where
   -- the address whose parts a word has is laid out as that word
-  pub read_some : (k : Kind) → type_bits k ≡ bit_and (w / 16777216) 7
+  pub read_some : (k : Kind) → type_bits k ≡ w / 16777216 % 256 % 8
       → AddressRead os
       (Some
       (record {
-        address = record { kind = k; high = bit_and (w / 65536) 255; middle = bit_and (w / 256) 255; low = bit_and w 255 };
-        status = eqb (w / 134217728) 1;
+        address = record { kind = k; high = w / 65536 % 256; middle = w / 256 % 256; low = w % 256 };
+        status = eqb (w / 16777216 % 256 / 8) 1;
       }))
   read_some k type =
-      let a : Address = record { kind = k; high = bit_and (w / 65536) 255; middle = bit_and (w / 256) 255; low = bit_and w 255 } in
-      let kind = and_mask (w / 16777216) 3 in
-      let high = and_mask (w / 65536) 8 in
-      let middle = and_mask (w / 256) 8 in
-      let low = and_mask w 8 in
-      let top : cond (eqb (w / 134217728) 1) 1 0 ≡ w / 134217728 = grind arith in
-      let second : w / 65536 ≡ w / 256 / 256 = omega arith in
-      let third : w / 16777216 ≡ w / 65536 / 256 = omega arith in
-      let fourth : w / 134217728 ≡ w / 16777216 / 8 = omega arith in
-      let whole : word (eqb (w / 134217728) 1) a ≡ w = omega arith in
+      let a : Address = record { kind = k; high = w / 65536 % 256; middle = w / 256 % 256; low = w % 256 } in
+      let top : cond (eqb (w / 16777216 % 256 / 8) 1) 1 0 ≡ w / 134217728 = grind arith in
+      let whole : word (eqb (w / 16777216 % 256 / 8) 1) a ≡ w = omega arith in
       (record { high = omega arith; middle = omega arith; low = omega arith }, ap septets whole ∙ laid)
 
   -- where no kind has a word's type bits, no address is laid out as it
-  pub read_none : ((k : Kind) → type_bits k ≢ bit_and (w / 16777216) 7) → AddressRead os None
+  pub read_none : ((k : Kind) → type_bits k ≢ w / 16777216 % 256 % 8) → AddressRead os None
   read_none none s a h e =
       let same = septets_one (word s a) w (word_below s a h) few (e ∙ sym laid) in
-      none a.kind (sym (word_type s a h) ∙ ap (λ n. n / 16777216 % 8) same ∙ sym (and_mask (w / 16777216) 3))
+      none a.kind (sym (word_type s a h) ∙ ap (λ n. n / 16777216 % 8) same ∙ omega arith)

@@ -38,10 +38,10 @@ abbrev pub address_octets : Bool → Address → List ℕ
 address_octets status a =
     septet false (word status a / 2097152) ∷ septet false (word status a / 16384) ∷ septet false (word status a / 128) ∷ septet true (word status a) ∷ []
 
--- the kind that has these type bits, or none where no kind has them
-abbrev pub Listed : ℕ → Option Kind → Type 0
-Listed bits (Some k) = type_bits k ≡ bits
-Listed bits None = (k : Kind) → type_bits k ≢ bits
+-- the kind that has these type bits, or that the type is unlisted where no kind has them
+abbrev pub Listed : ℕ → Result Kind AddressError → Type 0
+Listed bits (Ok k) = type_bits k ≡ bits
+Listed bits (Err e) = (e ≡ UnlistedType) × ((k : Kind) → type_bits k ≢ bits)
 
 -- making an address from type bits and a number: the one that has them; else the type is unlisted, or the number is above 24 bits
 abbrev pub AddressMade : ℕ → ℕ → Result Address AddressError → Type 0

@@ -1,5 +1,5 @@
 -- The control field's octet, and which information suits it.
-use Rattle.std.specs.Prelude.{◌≡◌, ℕ, ◌+◌, ◌*◌, ◌≤◌, Bool, true, false, cond, ◌≢◌, Some, None, Ok, Err, Option, Result}
+use Rattle.std.specs.Prelude.{◌≡◌, ℕ, ◌+◌, ◌*◌, ◌≤◌, Bool, true, false, cond, ◌≢◌, Ok, Err, Result}
 use Rattle.frame.specs.declared.control.Control.{Control}
 use Rattle.frame.specs.declared.control.Control.TheVariants.{Information, Supervisory as S, Unnumbered as U}
 use Rattle.frame.specs.declared.control.Supervisory.{Supervisory}
@@ -8,6 +8,8 @@ use Rattle.frame.specs.declared.control.Unnumbered.{Unnumbered}
 use Rattle.frame.specs.declared.control.Unnumbered.TheVariants.{Ui, Dm, Disc, Ua, Frmr, Xid, Test}
 use Rattle.frame.specs.declared.control.ControlError.{ControlError}
 use Rattle.frame.specs.declared.control.ControlError.TheVariants.{NumberAbove7}
+use Rattle.faults.specs.declared.FrameFault.{FrameFault}
+use Rattle.faults.specs.declared.FrameFault.TheVariants.{UnlistedControl}
 
 -- N(S) and N(R), where the control has them, are at most 7
 abbrev pub Numbered : Control → Type 0
@@ -39,10 +41,10 @@ abbrev pub ControlMade : Control → Result ℕ ControlError → Type 0
 ControlMade c (Ok o) = Numbered c × (o ≡ control_octet c)
 ControlMade c (Err NumberAbove7) = Numbered c → ⊥
 
--- reading an octet: the control that is laid out as it, or none where no control is
-abbrev pub ControlRead : ℕ → Option Control → Type 0
-ControlRead o (Some c) = Numbered c × (control_octet c ≡ o)
-ControlRead o None = (c : Control) → Numbered c → control_octet c ≢ o
+-- reading an octet: the control that is laid out as it, or that it is unlisted where no control is
+abbrev pub ControlRead : ℕ → Result Control FrameFault → Type 0
+ControlRead o (Ok c) = Numbered c × (control_octet c ≡ o)
+ControlRead o (Err f) = (f ≡ UnlistedControl) × ((c : Control) → Numbered c → control_octet c ≢ o)
 
 -- how many octets of information a control may have
 abbrev pub Suits : Control → ℕ → Type 0

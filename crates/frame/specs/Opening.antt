@@ -10,6 +10,7 @@ use Rattle.frame.specs.declared.control.ControlError.{ControlError}
 use Rattle.faults.specs.declared.FrameFault.{FrameFault}
 use Rattle.faults.specs.declared.FrameFault.TheVariants.{Length, DestinationMark, SourceMark, UnlistedType, UnlistedControl, UnsuitedInformation, Exchange}
 use Rattle.frame.specs.declared.opening.Frame.{Frame}
+use Rattle.frame.specs.declared.opening.Heading.{Heading}
 
 -- what a frame says: its addresses, status bits, control and information octets
 pub record Content : Type 0 where
@@ -20,16 +21,20 @@ pub record Content : Type 0 where
   pub control : Control
   pub information : List ℕ
 
-abbrev pub content : Frame → Content
-content f =
+-- what a heading and information octets say
+abbrev pub content_of : Heading → List ℕ → Content
+content_of h information =
     record {
-      destination = f.destination;
-      from_ground = f.from_ground;
-      source = f.source;
-      response = f.response;
-      control = f.control;
-      information = f.information.now;
+      destination = h.destination;
+      from_ground = h.from_ground;
+      source = h.source;
+      response = h.response;
+      control = h.control;
+      information = information;
     }
+
+abbrev pub content : Frame → Content
+content f = content_of f.heading f.information.now
 
 -- the nine octets before the information
 abbrev pub header : Content → List ℕ
@@ -73,7 +78,7 @@ abbrev pub Opened : List ℕ → Result Frame FrameFault → Type 0
 Opened os (Ok f) = Layable (content f) × (layout (content f) ≡ os)
 Opened os (Err fault) = First os fault
 
--- making a frame's header: refused exactly if a number of its control is above 7
-abbrev pub HeaderMade : Frame → Result (List ℕ) ControlError → Type 0
-HeaderMade f (Ok os) = Numbered f.control × (os ≡ header (content f))
-HeaderMade f (Err e) = Numbered f.control → ⊥
+-- making a heading's octets: refused exactly if a number of its control is above 7
+abbrev pub HeaderMade : Heading → Result (List ℕ) ControlError → Type 0
+HeaderMade h (Ok os) = Numbered h.control × (os ≡ header (content_of h []))
+HeaderMade h (Err e) = Numbered h.control → ⊥

@@ -1,10 +1,11 @@
 -- What the parts of opening answer.
 use Rattle.std.specs.Prelude.{◌≡◌, ℕ, ◌%◌, ◌<◌, ◌≢◌, ◌⊎◌, List, Some, None, Ok, Err, Option, Result, slice_index}
 use Rattle.frame.specs.Addresses.{AddressRead}
-use Rattle.frame.specs.Controls.{ControlRead, Numbered, control_octet, Suits}
+use Rattle.frame.specs.Controls.{unnumbered_octet, ControlRead, Suits}
 use Rattle.frame.specs.Opening.{mark}
 use Rattle.frame.specs.declared.address.Addressed.{Addressed}
 use Rattle.frame.specs.declared.control.Control.{Control}
+use Rattle.frame.specs.declared.control.Unnumbered.{Unnumbered}
 use Rattle.faults.specs.declared.FrameFault.{FrameFault}
 use Rattle.faults.specs.declared.FrameFault.TheVariants.{UnlistedType, UnlistedControl, UnsuitedInformation}
 
@@ -17,7 +18,11 @@ abbrev pub AddressTaken : ℕ → List ℕ → Result Addressed FrameFault → T
 AddressTaken place os (Ok a) = AddressRead os (Some a)
 AddressTaken place os (Err f) = AddressRead os None × (f ≡ UnlistedType place)
 
+-- the unnumbered frame whose octet this is without its poll bit, or that it is unlisted
+abbrev pub UnnumberedRead : ℕ → Result Unnumbered FrameFault → Type 0
+UnnumberedRead o (Ok f) = unnumbered_octet f ≡ o
+UnnumberedRead o (Err e) = (e ≡ UnlistedControl) × ((f : Unnumbered) → unnumbered_octet f ≢ o)
+
 abbrev pub ControlTaken : ℕ → ℕ → Result Control FrameFault → Type 0
-ControlTaken o n (Ok c) = Numbered c × (control_octet c ≡ o) × Suits c n
-ControlTaken o n (Err f) =
-    ((f ≡ UnlistedControl) × ControlRead o None) ⊎ ((f ≡ UnsuitedInformation) × ((c : Control) × (Numbered c × (control_octet c ≡ o) × (Suits c n → ⊥))))
+ControlTaken o n (Ok c) = ControlRead o (Ok c) × Suits c n
+ControlTaken o n (Err f) = ControlRead o (Err f) ⊎ ((f ≡ UnsuitedInformation) × ((c : Control) × (ControlRead o (Ok c) × (Suits c n → ⊥))))

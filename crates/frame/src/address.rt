@@ -1,18 +1,19 @@
 // Addresses: a kind and a number of 24 bits, and their four octets.
 ghost use Rattle.std.specs.Prelude.{◌≡◌, ◌%◌, ◌<◌, true, false, ◌==◌};
 ghost use Rattle.frame.specs.Addresses.{type_bits, address_number, septet as laid, address_octets, address_error_number, Listed, AddressMade, AddressRead};
+ghost use Rattle.frame.specs.Parts.{MarksRead};
 
-// What an address names, by its type's three bits.
-#[derive(Clone, Copy)]
+// What an address names: each kind is its type's three bits.
+#[derive(Clone, Copy, PartialEq, Eq, Debug)]
 pub enum Kind {
-    Aircraft,
-    GroundAdministered,
-    GroundDelegated,
-    Broadcast,
+    Aircraft = 1,
+    GroundAdministered = 4,
+    GroundDelegated = 5,
+    Broadcast = 7,
 }
 
 // The number's three octets, the highest first: every value of this type is an address.
-#[derive(Clone, Copy)]
+#[derive(Clone, Copy, PartialEq, Eq, Debug)]
 pub struct Address {
     pub kind: Kind,
     pub high: u8,
@@ -21,14 +22,14 @@ pub struct Address {
 }
 
 // An address with the status bit that stands beside it in a frame.
-#[derive(Clone, Copy)]
+#[derive(Clone, Copy, PartialEq, Eq, Debug)]
 pub struct Addressed {
     pub address: Address,
     pub status: bool,
 }
 
 // Why there is no such address.
-#[derive(Clone, Copy)]
+#[derive(Clone, Copy, PartialEq, Eq, Debug)]
 pub enum AddressError {
     UnlistedType,
     NumberTooLarge,
@@ -39,8 +40,7 @@ impl AddressError {
         ensures { result ≡ address_error_number self }
     {
         match self {
-            AddressError::UnlistedType => 24,
-            AddressError::NumberTooLarge => 24,
+            AddressError::UnlistedType | AddressError::NumberTooLarge => 24,
         }
     }
 }
@@ -49,23 +49,22 @@ impl Kind {
     pub fn bits(self) -> u8
         ensures { result ≡ type_bits self }
     {
-        match self {
-            Kind::Aircraft => 1,
-            Kind::GroundAdministered => 4,
-            Kind::GroundDelegated => 5,
-            Kind::Broadcast => 7,
-        }
+        self as u8
     }
+}
 
-    pub fn of_bits(bits: u8) -> Option<Kind>
-        ensures { Listed bits result }
-    {
+impl TryFrom<u8> for Kind {
+    type Error = AddressError;
+
+    ghost try_from_gives = { Listed };
+
+    fn try_from(bits: u8) -> Result<Kind, AddressError> {
         match bits {
-            1 => Some(Kind::Aircraft),
-            4 => Some(Kind::GroundAdministered),
-            5 => Some(Kind::GroundDelegated),
-            7 => Some(Kind::Broadcast),
-            _ => None,
+            1 => Ok(Kind::Aircraft),
+            4 => Ok(Kind::GroundAdministered),
+            5 => Ok(Kind::GroundDelegated),
+            7 => Ok(Kind::Broadcast),
+            _ => Err(AddressError::UnlistedType),
         }
     }
 }
@@ -75,34 +74,34 @@ impl Address {
     pub fn new(kind: u8, number: u32) -> Result<Address, AddressError>
         ensures { AddressMade kind number result }
     {
-        match Kind::of_bits(kind) {
-            None => Err(AddressError::UnlistedType),
-            Some(kind) => {
-                if number >= 0x100_0000 {
-                    return Err(AddressError::NumberTooLarge);
-                }
-                Ok(Address {
-                    kind,
-                    high: (number >> 16) as u8,
-                    middle: (number >> 8 & 0xFF) as u8,
-                    low: (number & 0xFF) as u8,
-                })
-            }
-        }
+        let kind = Kind::try_from(kind)?;
+        let [0, high, middle, low] = number.to_be_bytes() else {
+            return Err(AddressError::NumberTooLarge);
+        };
+        Ok(Address {
+            kind,
+            high,
+            middle,
+            low,
+        })
     }
 
     pub fn number(self) -> u32
         ensures { result ≡ address_number self }
     {
-        self.high as u32 * 0x1_0000 + self.middle as u32 * 0x100 + self.low as u32
+        u32::from_be_bytes([0, self.high, self.middle, self.low])
     }
 
     // The four octets with a status bit.
     pub fn octets(self, status: bool) -> [u8; 4]
         ensures { result ≡ address_octets status self }
     {
-        let status = if status { 1 << 27 } else { 0 };
-        let word = status + self.kind.bits() as u32 * 0x100_0000 + self.number();
+        let word = u32::from_be_bytes([
+            u8::from(status) * 8 + self.kind.bits(),
+            self.high,
+            self.middle,
+            self.low,
+        ]);
         [
             septet(false, word >> 21),
             septet(false, word >> 14),
@@ -115,27 +114,38 @@ impl Address {
     pub fn decode(octets: [u8; 4]) -> Option<Addressed>
         ensures { AddressRead octets result }
     {
-        let [first, second, third, fourth] = octets;
-        if first % 2 != 0 || second % 2 != 0 || third % 2 != 0 || fourth % 2 != 1 {
+        if wrong_mark(octets).is_some() {
             return None;
         }
+        let [first, second, third, fourth] = octets;
         let upper = bits_of(first) * 128 + bits_of(second);
         let word = (upper * 128 + bits_of(third)) * 128 + bits_of(fourth);
-        match Kind::of_bits((word >> 24 & 7) as u8) {
-            None => None,
-            Some(kind) => {
-                let address = Address {
-                    kind,
-                    high: (word >> 16 & 0xFF) as u8,
-                    middle: (word >> 8 & 0xFF) as u8,
-                    low: (word & 0xFF) as u8,
-                };
-                Some(Addressed {
-                    address,
-                    status: word >> 27 == 1,
-                })
-            }
-        }
+        let [top, high, middle, low] = word.to_be_bytes();
+        let kind = Kind::try_from(top % 8).ok()?;
+        let address = Address {
+            kind,
+            high,
+            middle,
+            low,
+        };
+        Some(Addressed {
+            address,
+            status: top / 8 == 1,
+        })
+    }
+}
+
+// The first of an address's octets whose bit 1 is wrong: it is 1 in the fourth alone.
+pub(crate) fn wrong_mark(octets: [u8; 4]) -> Option<usize>
+    ensures { MarksRead octets result }
+{
+    let [first, second, third, fourth] = octets;
+    match [first % 2, second % 2, third % 2, fourth % 2] {
+        [1, ..] => Some(0),
+        [_, 1, ..] => Some(1),
+        [_, _, 1, _] => Some(2),
+        [.., 0] => Some(3),
+        _ => None,
     }
 }
 
@@ -143,12 +153,12 @@ impl Address {
 fn septet(mark: bool, bits: u32) -> u8
     ensures { result ≡ laid mark bits }
 {
-    ((bits & 0x7F) as u8).reverse_bits() | mark as u8
+    ((bits & 0x7F) as u8).reverse_bits() | u8::from(mark)
 }
 
 // The seven bits behind the mark.
 fn bits_of(octet: u8) -> u32
     ensures { (laid (octet % 2 == 1) result ≡ octet) × (result < 128) }
 {
-    (octet.reverse_bits() & 0x7F) as u32
+    u32::from(octet.reverse_bits() & 0x7F)
 }

@@ -1,8 +1,11 @@
 // The control field: which frame it is, with its numbers.
-ghost use Rattle.std.specs.Prelude.{◌≡◌, ◌+◌, ◌≢◌, if◌then◌else◌, bit_and};
-ghost use Rattle.frame.specs.Controls.{ControlMade, ControlRead, Suited, control_error_number, supervisory_octet, unnumbered_octet};
+ghost use Rattle.std.specs.Prelude.{◌≡◌, if◌then◌else◌};
+ghost use Rattle.frame.specs.Controls.{ControlMade, ControlRead, Suited, control_error_number};
+ghost use Rattle.frame.specs.Parts.{UnnumberedRead};
 
-#[derive(Clone, Copy)]
+use faults::FrameFault;
+
+#[derive(Clone, Copy, PartialEq, Eq, Debug)]
 pub enum Control {
     Information {
         send: u8,
@@ -20,38 +23,37 @@ pub enum Control {
     },
 }
 
-// Receive ready (RR) and selective reject (SREJ).
-#[derive(Clone, Copy)]
+// Receive ready (RR) and selective reject (SREJ), each the octet that it is without its poll bit and number.
+#[derive(Clone, Copy, PartialEq, Eq, Debug)]
 pub enum Supervisory {
-    Rr,
-    Srej,
+    Rr = 0x01,
+    Srej = 0x0D,
 }
 
-// Unnumbered information, disconnected mode, disconnect, acknowledgement, frame reject, exchange identity and test.
-#[derive(Clone, Copy)]
+// Unnumbered information, disconnected mode, disconnect, acknowledgement, frame reject, exchange identity and test:
+// each is the octet that it is without its poll bit.
+#[derive(Clone, Copy, PartialEq, Eq, Debug)]
 pub enum Unnumbered {
-    Ui,
-    Dm,
-    Disc,
-    Ua,
-    Frmr,
-    Xid,
-    Test,
+    Ui = 0x03,
+    Dm = 0x0F,
+    Disc = 0x43,
+    Ua = 0x63,
+    Frmr = 0x87,
+    Xid = 0xAF,
+    Test = 0xE3,
 }
 
-// Why a control has no octet.
-#[derive(Clone, Copy)]
+// Why a control has no octet, each with its number.
+#[derive(Clone, Copy, PartialEq, Eq, Debug)]
 pub enum ControlError {
-    NumberAbove7,
+    NumberAbove7 = 41,
 }
 
 impl ControlError {
     pub fn number(self) -> u8
         ensures { result ≡ control_error_number self }
     {
-        match self {
-            ControlError::NumberAbove7 => 41,
-        }
+        self as u8
     }
 }
 
@@ -64,33 +66,14 @@ impl Control {
                 send,
                 poll,
                 receive,
-            } => {
-                if send > 7 || receive > 7 {
-                    return Err(ControlError::NumberAbove7);
-                }
-                Ok(send * 2 + poll_bit(poll) + receive * 32)
-            }
+            } if send <= 7 && receive <= 7 => Ok(send * 2 + poll_bit(poll) + receive * 32),
             Control::Supervisory {
                 function,
                 poll,
                 receive,
-            } => {
-                if receive > 7 {
-                    return Err(ControlError::NumberAbove7);
-                }
-                Ok(function.octet() + poll_bit(poll) + receive * 32)
-            }
-            Control::Unnumbered { function, poll } => Ok(function.octet() + poll_bit(poll)),
-        }
-    }
-
-    // The control that an octet stands for.
-    pub fn decode(octet: u8) -> Option<Control>
-        ensures { ControlRead octet result }
-    {
-        match octet {
-            polled if polled & 0x10 != 0 => without_poll(polled - 0x10, true),
-            other => without_poll(other, false),
+            } if receive <= 7 => Ok(function as u8 + poll_bit(poll) + receive * 32),
+            Control::Unnumbered { function, poll } => Ok(function as u8 + poll_bit(poll)),
+            _ => Err(ControlError::NumberAbove7),
         }
     }
 
@@ -99,51 +82,74 @@ impl Control {
         ensures { Suited self information result }
     {
         match self {
-            Control::Information {
-                send: _,
-                poll: _,
-                receive: _,
-            } => true,
             Control::Supervisory {
-                function,
-                poll: _,
-                receive: _,
-            } => match function {
-                Supervisory::Rr => information == 0,
-                Supervisory::Srej => information > 0,
-            },
-            Control::Unnumbered { function, poll: _ } => match function {
-                Unnumbered::Ua | Unnumbered::Dm | Unnumbered::Disc => information == 0,
-                Unnumbered::Frmr => information == 3,
-                Unnumbered::Ui | Unnumbered::Xid | Unnumbered::Test => true,
-            },
+                function: Supervisory::Rr,
+                ..
+            } => information == 0,
+            Control::Supervisory {
+                function: Supervisory::Srej,
+                ..
+            } => information > 0,
+            Control::Unnumbered {
+                function: Unnumbered::Ua | Unnumbered::Dm | Unnumbered::Disc,
+                ..
+            } => information == 0,
+            Control::Unnumbered {
+                function: Unnumbered::Frmr,
+                ..
+            } => information == 3,
+            Control::Information { .. } | Control::Unnumbered { .. } => true,
         }
     }
 }
 
-impl Supervisory {
-    fn octet(self) -> u8
-        ensures { result ≡ supervisory_octet self }
-    {
-        match self {
-            Supervisory::Rr => 0x01,
-            Supervisory::Srej => 0x0D,
+// The control that an octet stands for.
+impl TryFrom<u8> for Control {
+    type Error = FrameFault;
+
+    ghost try_from_gives = { ControlRead };
+
+    fn try_from(octet: u8) -> Result<Control, FrameFault> {
+        let poll = octet & 0x10 != 0;
+        let receive = octet >> 5;
+        match octet & 0x0F {
+            low if low & 0x01 == 0 => Ok(Control::Information {
+                send: low >> 1,
+                poll,
+                receive,
+            }),
+            0x01 => Ok(Control::Supervisory {
+                function: Supervisory::Rr,
+                poll,
+                receive,
+            }),
+            0x0D => Ok(Control::Supervisory {
+                function: Supervisory::Srej,
+                poll,
+                receive,
+            }),
+            _ => {
+                let function = Unnumbered::of_octet(octet & 0xEF)?;
+                Ok(Control::Unnumbered { function, poll })
+            }
         }
     }
 }
 
 impl Unnumbered {
-    fn octet(self) -> u8
-        ensures { result ≡ unnumbered_octet self }
+    // The frame of an octet whose poll bit is 0.
+    fn of_octet(octet: u8) -> Result<Unnumbered, FrameFault>
+        ensures { UnnumberedRead octet result }
     {
-        match self {
-            Unnumbered::Ui => 0x03,
-            Unnumbered::Dm => 0x0F,
-            Unnumbered::Disc => 0x43,
-            Unnumbered::Ua => 0x63,
-            Unnumbered::Frmr => 0x87,
-            Unnumbered::Xid => 0xAF,
-            Unnumbered::Test => 0xE3,
+        match octet {
+            0x03 => Ok(Unnumbered::Ui),
+            0x0F => Ok(Unnumbered::Dm),
+            0x43 => Ok(Unnumbered::Disc),
+            0x63 => Ok(Unnumbered::Ua),
+            0x87 => Ok(Unnumbered::Frmr),
+            0xAF => Ok(Unnumbered::Xid),
+            0xE3 => Ok(Unnumbered::Test),
+            _ => Err(FrameFault::UnlistedControl),
         }
     }
 }
@@ -151,48 +157,5 @@ impl Unnumbered {
 fn poll_bit(poll: bool) -> u8
     ensures { result ≡ (if poll then 16 else 0) }
 {
-    if poll { 0x10 } else { 0 }
-}
-
-// The control of an octet whose poll bit was cleared.
-fn without_poll(octet: u8, poll: bool) -> Option<Control>
-    requires { bit_and octet 16 ≡ 0 }
-    ensures { ControlRead (octet + (if poll then 16 else 0)) result }
-{
-    let receive = octet >> 5;
-    match octet {
-        low if low & 0x01 == 0 => Some(Control::Information {
-            send: low >> 1 & 0x07,
-            poll,
-            receive,
-        }),
-        low if low & 0x0F == 0x01 => Some(Control::Supervisory {
-            function: Supervisory::Rr,
-            poll,
-            receive,
-        }),
-        low if low & 0x0F == 0x0D => Some(Control::Supervisory {
-            function: Supervisory::Srej,
-            poll,
-            receive,
-        }),
-        other => without_numbers(other, poll),
-    }
-}
-
-fn without_numbers(octet: u8, poll: bool) -> Option<Control>
-    requires { (bit_and octet 1 ≢ 0) × (bit_and octet 15 ≢ 1) × (bit_and octet 15 ≢ 13) × (bit_and octet 16 ≡ 0) }
-    ensures { ControlRead (octet + (if poll then 16 else 0)) result }
-{
-    let function = match octet {
-        0x03 => Unnumbered::Ui,
-        0x0F => Unnumbered::Dm,
-        0x43 => Unnumbered::Disc,
-        0x63 => Unnumbered::Ua,
-        0x87 => Unnumbered::Frmr,
-        0xAF => Unnumbered::Xid,
-        0xE3 => Unnumbered::Test,
-        _ => return None,
-    };
-    Some(Control::Unnumbered { function, poll })
+    u8::from(poll) * 0x10
 }

@@ -5,7 +5,7 @@ ghost use Rattle.frame.specs.Laws.{LayoutIsOne, FaultIsOne, LayoutHasNoFault, La
 
 pub use address::{Address, AddressError, Addressed, Kind};
 pub use control::{Control, ControlError, Supervisory, Unnumbered};
-pub use opening::{Frame, open};
+pub use opening::{Frame, Heading, open};
 
 mod address;
 mod control;

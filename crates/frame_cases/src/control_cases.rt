@@ -1,68 +1,43 @@
 // The control octet: every value is ruled, and what is read is made again.
 #[cfg(test)]
 mod tests {
-    use frame::{Control, Supervisory, Unnumbered};
-    use std::test::Fail;
+    use frame::{Control, ControlError, Supervisory, Unnumbered};
 
     #[test]
-    fn worked_values(rt: HostRuntime) -> Result<(), Fail> {
-        match Control::decode(0xB6) {
-            Some(
-                Control::Information {
-                    send,
-                    poll,
-                    receive,
-                },
-            ) => assert!(rt; send == 3 && poll && receive == 5),
-            _ => return Err(Fail::new("B6h is INFO")),
-        }
-        match Control::decode(0xBF) {
-            Some(Control::Unnumbered { function, poll }) => match function {
-                Unnumbered::Xid => assert!(rt; poll),
-                _ => return Err(Fail::new("BFh is XID")),
-            },
-            _ => return Err(Fail::new("BFh is XID")),
-        }
-        match Control::decode(0x6D) {
-            Some(
-                Control::Supervisory {
-                    function,
-                    poll,
-                    receive,
-                },
-            ) => match function {
-                Supervisory::Srej => {
-                    assert!(rt; !poll && receive == 3);
-                    Ok(())
-                },
-                _ => Err(Fail::new("6Dh is SREJ")),
-            },
-            _ => Err(Fail::new("6Dh is SREJ")),
-        }
+    fn worked_values(rt: HostRuntime) {
+        let information = Control::Information {
+            send: 3,
+            poll: true,
+            receive: 5,
+        };
+        let exchange = Control::Unnumbered {
+            function: Unnumbered::Xid,
+            poll: true,
+        };
+        let reject = Control::Supervisory {
+            function: Supervisory::Srej,
+            poll: false,
+            receive: 3,
+        };
+        assert!(rt; Control::try_from(0xB6) == Ok(information));
+        assert!(rt; Control::try_from(0xBF) == Ok(exchange));
+        assert!(rt; Control::try_from(0x6D) == Ok(reject));
     }
 
     // 128 octets are INFO, 16 each RR and SREJ, and seven unnumbered frames have two each.
     #[test]
-    fn every_octet(rt: HostRuntime) -> Result<(), Fail> {
-        let mut listed: u32 = 0;
+    fn every_octet(rt: HostRuntime) {
+        let listed = (0..=255).filter(|octet| Control::try_from(*octet).is_ok());
+        assert!(rt; listed.count() == 128 + 32 + 14);
         for octet in 0..=255 {
-            match Control::decode(octet) {
-                None => {}
-                Some(control) => {
-                    listed = listed.wrapping_add(1);
-                    match control.octet() {
-                        Ok(again) => assert!(rt; again == octet),
-                        Err(_) => return Err(Fail::new("not made again")),
-                    }
-                }
+            if let Ok(control) = Control::try_from(octet) {
+                assert!(rt; control.octet() == Ok(octet));
             }
         }
-        assert!(rt; listed == 128 + 32 + 14);
-        Ok(())
     }
 
     #[test]
-    fn numbers_above_seven(rt: HostRuntime) -> Result<(), Fail> {
+    fn numbers_above_seven(rt: HostRuntime) {
         let send = Control::Information {
             send: 8,
             poll: false,
@@ -73,17 +48,9 @@ mod tests {
             poll: true,
             receive: 8,
         };
-        match send.octet() {
-            Ok(_) => return Err(Fail::new("made")),
-            Err(e) => assert!(rt; e.number() == 41),
-        }
-        match receive.octet() {
-            Ok(_) => Err(Fail::new("made")),
-            Err(e) => {
-                assert!(rt; e.number() == 41);
-                Ok(())
-            },
-        }
+        assert!(rt; send.octet() == Err(ControlError::NumberAbove7));
+        assert!(rt; receive.octet() == Err(ControlError::NumberAbove7));
+        assert!(rt; ControlError::NumberAbove7.number() == 41);
     }
 
     #[test]

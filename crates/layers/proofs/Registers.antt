@@ -1,8 +1,7 @@
 -- The register's moves are those of the fifteen bits that it holds.
-use Rattle.std.proofs.Common.{◌≡◌, ℕ, suc, ◌+◌, ◌-◌, ◌*◌, ◌/◌, ◌%◌, ◌^◌, ◌<◌, Bool, false, eqb, List, [], ◌∷◌, ◌++◌, length, get_or, drop, sym, refl, ap, ◌∙◌, arith}
+use Rattle.std.proofs.Common.{◌≡◌, ℕ, ◌+◌, ◌*◌, ◌/◌, ◌%◌, ◌^◌, ◌<◌, false, eqb, [], ◌∷◌, ◌++◌, get_or, sym, refl, ap, ◌∙◌, arith}
 use mathlib.Core.Bool.{xor}
 use lib.Bits.{bit_and, bit_or, bit_xor, and_mask, or_shifted, or_shifted_r}
-use Rattle.std.proofs.lemmas.List.{drop_more}
 use Rattle.bits.specs.Octets.{low}
 use Rattle.bits.proofs.Low.{odd_xor, low_more, low_double, low-take, low_mod}
 use Rattle.bits.proofs.Sent.{low_at}
@@ -51,17 +50,3 @@ back r =
   where
     ends : xor (eqb (r / 16384 % 2) 1) (eqb (r % 2) 1) ≡ xor (get_or (low 15 r) 14 false) (get_or (low 15 r) 0 false)
     ends = ap (λ b. xor b (eqb (r % 2) 1)) (sym (low_at 15 r 14 (omega arith))) ∙ ap (xor (get_or (low 15 r) 14 false)) (lowest r)
-
--- one given bit more, before those that the register holds
-pub hold_more : (bits : List Bool) (i register b : ℕ) → length bits ≡ 15 → i < 15 → b < 2 → eqb b 1 ≡ get_or bits (14 - i) false
-    → low i register ≡ drop (15 - i) bits → low (i + 1) (2 * register + b) ≡ drop (15 - (i + 1)) bits
-hold_more bits i register b long few small is held =
-    let next : i + 1 ≡ suc i = omega arith in
-    let place : 15 - (i + 1) ≡ 14 - i = omega arith in
-    let after : 14 - i + 1 ≡ 15 - i = omega arith in
-    ap (λ k. low k (2 * register + b)) next
-    ∙ low_double i register b small
-    ∙ ap (λ x. x ∷ low i register) is
-    ∙ ap (λ l. get_or bits (14 - i) false ∷ l) (held ∙ ap (λ k. drop k bits) (sym after))
-    ∙ sym (drop_more bits (14 - i) false (omega arith))
-    ∙ ap (λ k. drop k bits) (sym place)

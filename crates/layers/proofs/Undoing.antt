@@ -24,10 +24,9 @@ pub given_back : SourceGivesWhatSinkHolds
 given_back given below e = from_before (length below) given e below
 
 pub put_undone : PutIsUndone
-put_undone held held' held'' room room' room'' b u (Ok tt) put cut = (
-  refl,
-  cut.1 ∙ ap (λ l. lib.ListN.take (length held) l) put.0 ∙ take_at held (b ∷ []) (length held) refl,
-  omega (arith, cut.2, put.1, ap length put.0, length_push held b),
-)
-put_undone held held' held'' room room' room'' b u (Err e) put cut =
-    absurd (omega (arith, cut.1, ap length put.0, length_push held b))
+put_undone s s' s'' b u (Ok tt) put cut =
+    let held = cut.1 ∙ ap (λ l. lib.ListN.take (length s.held) l) put.0 ∙ take_at s.held (b ∷ []) (length s.held) refl in
+    let space : s''.space ≡ s.space = omega (arith, cut.2, put.1, ap length put.0, length_push s.held b) in
+    (refl, ap (λ l. record { held = l; space = s''.space }) held ∙ ap (λ n. record { held = s.held; space = n }) space)
+put_undone s s' s'' b u (Err e) put cut =
+    absurd (omega (arith, cut.1, ap length put.0, length_push s.held b))

@@ -7,10 +7,6 @@ use Rattle.bits.specs.Packed.{usable}
 use Rattle.bits.proofs.Sent.{length-sent}
 use Rattle.layers.specs.Burst.{window}
 
-pub take_none : {X : Type 0} (n : ℕ) → take {A = X} n [] ≡ []
-take_none zero = refl
-take_none (suc n) = refl
-
 pub take_first : {X : Type 0} (n : ℕ) (x : X) (xs : List X) → 0 < n → take n (x ∷ xs) ≡ x ∷ take (n - 1) xs
 take_first zero x xs h = absurd (omega arith)
 take_first (suc n) x xs h = let less : n ≡ suc n - 1 = omega arith in ap (λ m. x ∷ take m xs) less

@@ -1,6 +1,6 @@
 -- The laws of scrambling and of sinks.
-use Rattle.std.specs.Prelude.{◌≡◌, ℕ, Bool, List, length, ℤ, pos, neg_ℤ, Ok, Result}
-use Rattle.bits.specs.Sink.{Put, CutBack}
+use Rattle.std.specs.Prelude.{◌≡◌, Bool, List, length, ℤ, pos, neg_ℤ, Ok, Result}
+use Rattle.bits.specs.Sink.{Shown, Put, CutBack}
 use Rattle.bits.specs.declared.sink.SinkError.{SinkError}
 use Rattle.layers.specs.Sequence.{Rule, Begins, onward, moved, sequence, combined}
 
@@ -22,8 +22,7 @@ abbrev pub SourceGivesWhatSinkHolds : Type 0
 SourceGivesWhatSinkHolds = (given below : List Bool) → length given ≡ 15
     → combined (sequence (moved onward (length below) given)) (neg_ℤ (pos (length below))) below ≡ combined (sequence given) (pos 0) below
 
--- a bit put, and the sink cut back to what it held before: held and room are as before
+-- a bit put, and the sink cut back to what it held before: it shows what it did before
 abbrev pub PutIsUndone : Type 0
-PutIsUndone = (held held' held'' : List Bool) (room room' room'' : ℕ) (b : Bool) (u : Unit {0}) (r : Result (Unit {0}) SinkError)
-    → Put held room b (Ok u) held' room' → CutBack held' room' (length held) r held'' room''
-    → (r ≡ Ok tt) × (held'' ≡ held) × (room'' ≡ room)
+PutIsUndone = (s s' s'' : Shown) (b : Bool) (u : Unit {0}) (r : Result (Unit {0}) SinkError)
+    → Put s b (Ok u) s' → CutBack s' (length s.held) r s'' → (r ≡ Ok tt) × (s'' ≡ s)

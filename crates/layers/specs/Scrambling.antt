@@ -1,8 +1,9 @@
 -- Scrambling layers. Each meaning is given by the meaning of what is below. The bits of the sequence from the layer's place on stand in a
 -- number, the lowest first: a sink's register holds fifteen, a source's queue some that are computed ahead and then fifteen.
-use Rattle.std.specs.Prelude.{ℕ, ◌/◌, ◌^◌, Bool, List, [], ◌∷◌, length, ℤ, pos, neg_ℤ}
+use Rattle.std.specs.Prelude.{◌/◌, ◌^◌, Bool, List, [], ◌∷◌, length, ℤ, pos, neg_ℤ}
 use Rattle.std.specs.Bool.{xor}
 use Rattle.bits.specs.Octets.{low}
+use Rattle.bits.specs.Sink.{Shown}
 use Rattle.layers.specs.Sequence.{sequence, combined}
 use Rattle.layers.specs.declared.scrambling.ScrambledSource.{ScrambledSource}
 use Rattle.layers.specs.declared.scrambling.ScrambledSink.{ScrambledSink}
@@ -18,9 +19,10 @@ keyed (k ∷ ks) s (b ∷ bs) = xor b k ∷ keyed ks s bs
 abbrev pub scrambled_waiting : {S : Type 0} → (S → List Bool) → ScrambledSource S → List Bool
 scrambled_waiting waiting s = keyed (low s.ahead s.queue) (sequence (low 15 (s.queue / 2 ^ s.ahead))) (waiting s.below)
 
--- what is held: the bits below, combined with the sequence up to the layer's place
-abbrev pub scrambled_held : {S : Type 0} → (S → List Bool) → ScrambledSink S → List Bool
-scrambled_held held s = combined (sequence (low 15 s.register)) (neg_ℤ (pos (length (held s.below)))) (held s.below)
-
-abbrev pub scrambled_space : {S : Type 0} → (S → ℕ) → ScrambledSink S → ℕ
-scrambled_space space s = space s.below
+-- what is held: the bits below, combined with the sequence up to the layer's place; the room is that below
+abbrev pub scrambled_shown : {S : Type 0} → (S → Shown) → ScrambledSink S → Shown
+scrambled_shown shown s =
+    record {
+      held = combined (sequence (low 15 s.register)) (neg_ℤ (pos (length (shown s.below).held))) (shown s.below).held;
+      space = (shown s.below).space;
+    }

@@ -1,6 +1,5 @@
 // Burst windows: the first bits waiting below, or the first room below.
-ghost use Rattle.std.specs.Prelude.{◌≡◌, min, take as front};
-ghost use Rattle.layers.specs.Burst.{window, burst_waiting, burst_held, burst_space};
+ghost use Rattle.std.specs.Prelude.{◌≡◌};
 
 use bits::sink::{BitSink, SinkError};
 use bits::source::BitSource;
@@ -8,67 +7,52 @@ use bits::source::BitSource;
 // A burst has at most so many bits.
 pub const MOST_BURST: usize = 131_071;
 
+// Over a source as over a sink: so many bits more are let through.
 #[derive(Drop)]
-pub struct BurstSource<S> {
+pub struct Burst<S> {
     below: S,
     left: usize,
 }
 
-impl<S: BitSource> BurstSource<S> {
-    pub fn new(below: S, n: usize) -> BurstSource<S>
-        ensures { burst_waiting S.BitSource.waiting result ≡ front (window n) (S.BitSource.waiting below) }
-    {
-        let left = n.min(MOST_BURST);
-        BurstSource { below, left }
-    }
-}
+impl<S> Burst<S> {
+    ghost use Rattle.layers.specs.Burst.{window};
 
-impl<S: BitSource> BitSource for BurstSource<S> {
-    ghost waiting = { burst_waiting S.BitSource.waiting };
-
-    fn take(&mut self) -> Option<bool> {
-        if self.left == 0 {
-            return None;
-        }
-        match self.below.take() {
-            None => None,
-            Some(bit) => {
-                self.left -= 1;
-                Some(bit)
-            }
-        }
-    }
-}
-
-#[derive(Drop)]
-pub struct BurstSink<S> {
-    below: S,
-    left: usize,
-}
-
-impl<S: BitSink> BurstSink<S> {
-    pub fn new(below: S, n: usize) -> BurstSink<S>
-        ensures held { burst_held S.BitSink.held result ≡ S.BitSink.held below }
-        ensures space { burst_space S.BitSink.space result ≡ min (window n) (S.BitSink.space below) }
+    pub fn new(below: S, n: usize) -> Burst<S>
         ensures below { result.below ≡ below }
+        ensures left { result.left ≡ window n }
     {
         let left = n.min(MOST_BURST);
-        BurstSink { below, left }
+        Burst { below, left }
     }
 
     // Hands back what is below.
     pub fn into_below(self) -> S
         ensures { result ≡ self.below }
     {
-        let BurstSink { below, left: _ } = self;
+        let Burst { below, .. } = self;
         below
     }
 }
 
-impl<S: BitSink> BitSink for BurstSink<S> {
-    ghost held = { burst_held S.BitSink.held };
+impl<S: BitSource> BitSource for Burst<S> {
+    ghost use Rattle.layers.specs.Burst.{burst_waiting};
 
-    ghost space = { burst_space S.BitSink.space };
+    ghost waiting = { burst_waiting S.waiting };
+
+    fn take(&mut self) -> Option<bool> {
+        if self.left == 0 {
+            return None;
+        }
+        let bit = self.below.take()?;
+        self.left -= 1;
+        Some(bit)
+    }
+}
+
+impl<S: BitSink> BitSink for Burst<S> {
+    ghost use Rattle.layers.specs.Burst.{burst_shown};
+
+    ghost shown = { burst_shown S.shown };
 
     fn put(&mut self, bit: bool) -> Result<(), SinkError> {
         if self.left == 0 {

@@ -6,7 +6,7 @@ use bits::sink::BitSink;
 use bits::source::BitSource;
 
 // The sink's room ended: so many bits went over, and further ones may wait.
-#[derive(Clone, Copy)]
+#[derive(Clone, Copy, PartialEq, Eq, Debug)]
 pub struct NoRoom {
     pub copied: usize,
 }
@@ -21,18 +21,16 @@ impl NoRoom {
 
 // Moves waiting bits into the sink until its room is used or no bit waits, and counts them.
 pub fn copy<S: BitSource, K: BitSink>(source: &mut S, sink: &mut K) -> Result<usize, NoRoom>
-    ensures { Copies (S.BitSource.waiting source.old) (S.BitSource.waiting source.new) (K.BitSink.held sink.old) (K.BitSink.held sink.new) (K.BitSink.space sink.old) (K.BitSink.space sink.new) result }
+    ensures { Copies (S.waiting source.old) (S.waiting source.new) (K.shown sink.old) (K.shown sink.new) result }
 {
     let room = sink.room();
-    let mut copied = 0;
-    while copied < room {
-        match source.take() {
-            None => return Ok(copied),
-            Some(bit) => match sink.put(bit) {
-                Ok(()) => copied += 1,
-                Err(_) => return Err(NoRoom { copied }),
-            },
-        }
+    for copied in 0..room {
+        let Some(bit) = source.take() else {
+            return Ok(copied);
+        };
+        let Ok(()) = sink.put(bit) else {
+            return Err(NoRoom { copied });
+        };
     }
-    Err(NoRoom { copied })
+    Err(NoRoom { copied: room })
 }

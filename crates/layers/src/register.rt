@@ -32,12 +32,8 @@ pub fn holding(bits: &[bool; 15]) -> u16
     ensures { low 15 result ≡ bits.now }
 {
     let mut register = 0;
-    for i in 0..15 {
-        if bits[14 - i] {
-            register = 2 * register + 1;
-        } else {
-            register = 2 * register;
-        }
+    for bit in bits.iter().rev() {
+        register = 2 * register + u16::from(*bit);
     }
     register
 }

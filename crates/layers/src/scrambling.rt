@@ -1,7 +1,7 @@
 // Scrambling: each bit is combined with a bit of the sequence by exclusive or.
 ghost use Rattle.std.specs.Prelude.{◌≡◌, length, pos, neg_ℤ};
 ghost use Rattle.layers.specs.Sequence.{sequence, combined};
-ghost use Rattle.layers.specs.Scrambling.{scrambled_waiting, scrambled_held, scrambled_space};
+ghost use Rattle.layers.specs.Scrambling.{scrambled_waiting, scrambled_shown};
 
 use crate::register::{fourteen_more, holding, moved_back, moved_on};
 use bits::sink::{BitSink, SinkError};
@@ -18,7 +18,7 @@ pub struct ScrambledSource<S> {
 impl<S: BitSource> ScrambledSource<S> {
     // s(0) to s(14) are given; the new layer is at s(0).
     pub fn new(below: S, given: &[bool; 15]) -> ScrambledSource<S>
-        ensures { scrambled_waiting S.BitSource.waiting result ≡ combined (sequence given.now) (pos 0) (S.BitSource.waiting below) }
+        ensures { scrambled_waiting S.waiting result ≡ combined (sequence given.now) (pos 0) (S.waiting below) }
     {
         let queue = holding(given) as u32;
         ScrambledSource {
@@ -30,22 +30,18 @@ impl<S: BitSource> ScrambledSource<S> {
 }
 
 impl<S: BitSource> BitSource for ScrambledSource<S> {
-    ghost waiting = { scrambled_waiting S.BitSource.waiting };
+    ghost waiting = { scrambled_waiting S.waiting };
 
     fn take(&mut self) -> Option<bool> {
-        match self.below.take() {
-            None => None,
-            Some(bit) => {
-                if self.ahead == 0 {
-                    self.queue = fourteen_more(self.queue);
-                    self.ahead = 14;
-                }
-                let key = self.queue & 1 == 1;
-                self.queue >>= 1;
-                self.ahead -= 1;
-                Some(bit ^ key)
-            }
+        let bit = self.below.take()?;
+        if self.ahead == 0 {
+            self.queue = fourteen_more(self.queue);
+            self.ahead = 14;
         }
+        let key = self.queue & 1 == 1;
+        self.queue >>= 1;
+        self.ahead -= 1;
+        Some(bit ^ key)
     }
 }
 
@@ -58,8 +54,8 @@ pub struct ScrambledSink<S> {
 impl<S: BitSink> ScrambledSink<S> {
     // s(0) to s(14) are given; the new layer is at s(0), and bits that are held already lie before it.
     pub fn new(below: S, given: &[bool; 15]) -> ScrambledSink<S>
-        ensures held { scrambled_held S.BitSink.held result ≡ combined (sequence given.now) (neg_ℤ (pos (length (S.BitSink.held below)))) (S.BitSink.held below) }
-        ensures space { scrambled_space S.BitSink.space result ≡ S.BitSink.space below }
+        ensures held { (scrambled_shown S.shown result).held ≡ combined (sequence given.now) (neg_ℤ (pos (length (S.shown below).held))) (S.shown below).held }
+        ensures space { (scrambled_shown S.shown result).space ≡ (S.shown below).space }
         ensures below { result.below ≡ below }
     {
         let register = holding(given);
@@ -70,15 +66,13 @@ impl<S: BitSink> ScrambledSink<S> {
     pub fn into_below(self) -> S
         ensures { result ≡ self.below }
     {
-        let ScrambledSink { below, register: _ } = self;
+        let ScrambledSink { below, .. } = self;
         below
     }
 }
 
 impl<S: BitSink> BitSink for ScrambledSink<S> {
-    ghost held = { scrambled_held S.BitSink.held };
-
-    ghost space = { scrambled_space S.BitSink.space };
+    ghost shown = { scrambled_shown S.shown };
 
     fn put(&mut self, bit: bool) -> Result<(), SinkError> {
         let key = self.register & 1 == 1;
@@ -97,14 +91,10 @@ impl<S: BitSink> BitSink for ScrambledSink<S> {
 
     fn cut_back(&mut self, count: usize) -> Result<(), SinkError> {
         let held = self.below.count();
-        match self.below.cut_back(count) {
-            Err(e) => Err(e),
-            Ok(()) => {
-                for _ in count..held {
-                    self.register = moved_back(self.register);
-                }
-                Ok(())
-            }
+        self.below.cut_back(count)?;
+        for _ in count..held {
+            self.register = moved_back(self.register);
         }
+        Ok(())
     }
 }

@@ -3,6 +3,7 @@ use Rattle.std.specs.Prelude.{◌≡◌, ℕ, ◌+◌, ◌/◌, ◌%◌, ◌<◌
 use Rattle.std.specs.List.{flat_map}
 use Rattle.bits.specs.Buffers.{over}
 use Rattle.cutting.specs.Faults.{fault_number}
+use Rattle.lines.specs.declared.Stamp.{Stamp}
 use Rattle.lines.specs.declared.Line.{Line}
 use Rattle.lines.specs.declared.Line.TheVariants.{Refused, Aborted, Frame, Taken}
 use Rattle.lines.specs.declared.LineError.{LineError}
@@ -16,22 +17,20 @@ abbrev pub hex_pair : ℕ → List ℕ
 hex_pair o = hex_digit (o / 16) ∷ hex_digit (o % 16) ∷ []
 
 -- a verdict's ordinal and all bits taken so far
-abbrev pub stamp : ℕ → ℕ → List ℕ
-stamp ordinal taken = decimal ordinal ++ codes " " ++ decimal taken ++ codes " "
+abbrev pub stamp : Stamp → List ℕ
+stamp s = decimal s.ordinal ++ codes " " ++ decimal s.taken ++ codes " "
 
 -- a line up to a frame's octets
 abbrev pub head_text : Line → List ℕ
-head_text (Refused ordinal taken fault) = stamp ordinal taken ++ codes "refused " ++ decimal (fault_number fault)
-head_text (Aborted ordinal taken) = stamp ordinal taken ++ codes "aborted"
-head_text (Frame ordinal taken octets) = stamp ordinal taken ++ codes "frame "
+head_text (Refused s fault) = stamp s ++ codes "refused " ++ decimal (fault_number fault)
+head_text (Aborted s) = stamp s ++ codes "aborted"
+head_text (Frame s octets) = stamp s ++ codes "frame "
 head_text (Taken total) = codes "taken " ++ decimal total
 
 -- a frame's octets; none in any other line
 abbrev pub frame_octets : Line → List ℕ
-frame_octets (Refused ordinal taken fault) = []
-frame_octets (Aborted ordinal taken) = []
-frame_octets (Frame ordinal taken octets) = octets.now
-frame_octets (Taken total) = []
+frame_octets (Frame s octets) = octets.now
+frame_octets other = []
 
 -- the whole line: its octets as pairs without spaces, and 0Ah at the end
 abbrev pub line_text : Line → List ℕ

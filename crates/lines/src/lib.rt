@@ -3,50 +3,42 @@
 
 ghost use Rattle.std.specs.Prelude.{◌≡◌, ◌≤◌};
 ghost use Rattle.lines.specs.Lines.{Made, line_text, head_text, stamp, frame_octets, error_number};
-ghost use Rattle.lines.specs.Drafts.{drafted};
+ghost use Rattle.arrayvec.specs.ArrayString.{array_string_len};
 
-use crate::draft::Draft;
-use crate::put::{put_hex, put_text};
+use crate::hex::put_hex;
+use arrayvec::ArrayString;
 use cutting::Fault;
+use itoa::Buffer;
 
-mod draft;
-mod put;
+mod hex;
 
-// A verdict with its ordinal from 1 and all bits taken so far, or the total at the end.
-#[derive(Clone, Copy)]
+// A verdict's ordinal from 1, and all bits taken so far.
+#[derive(Clone, Copy, PartialEq, Eq, Debug)]
+pub struct Stamp {
+    pub ordinal: u64,
+    pub taken: u64,
+}
+
+// A verdict, or the total at the end.
+#[derive(Clone, Copy, PartialEq, Eq, Debug)]
 pub enum Line<'a> {
-    Refused {
-        ordinal: u64,
-        taken: u64,
-        fault: Fault,
-    },
-    Aborted {
-        ordinal: u64,
-        taken: u64,
-    },
-    Frame {
-        ordinal: u64,
-        taken: u64,
-        octets: &'a [u8],
-    },
-    Taken {
-        total: u64,
-    },
+    Refused { stamp: Stamp, fault: Fault },
+    Aborted { stamp: Stamp },
+    Frame { stamp: Stamp, octets: &'a [u8] },
+    Taken { total: u64 },
 }
 
 // Why no line is made.
-#[derive(Clone, Copy)]
+#[derive(Clone, Copy, PartialEq, Eq, Debug)]
 pub enum LineError {
-    ShortBuffer,
+    ShortBuffer = 61,
 }
 
 impl LineError {
     pub fn number(self) -> u8
         ensures { result ≡ error_number self }
     {
-        match self {
-            LineError::ShortBuffer => 61,
-        }
+        self as u8
     }
 }
 
@@ -54,89 +46,74 @@ impl LineError {
 pub fn make_line(line: Line<'_>, buffer: &mut [u8]) -> Result<usize, LineError>
     ensures { Made (line_text line.entry) buffer.old buffer.new result }
 {
-    let draft = head(&line);
-    let octets = octets_of(line);
+    let head = line.head();
+    let (text, octets) = (head.as_bytes(), line.octets());
     let room = buffer.len();
-    if room <= draft.len || (room - draft.len - 1) / 2 < octets.len() {
+    if room <= text.len() || (room - text.len() - 1) / 2 < octets.len() {
         return Err(LineError::ShortBuffer);
     }
-    put_text(&draft.text[0..draft.len], buffer);
-    let end = put_hex(octets, buffer, draft.len);
+    let end = text.len() + 2 * octets.len();
+    buffer[..text.len()].copy_from_slice(text);
+    put_hex(octets, &mut buffer[text.len()..end]);
     buffer[end] = b'\n';
     Ok(end + 1)
 }
 
-// A line up to a frame's octets.
-fn head(line: &Line<'_>) -> Draft
-    ensures text { drafted result ≡ head_text line.now }
-    ensures few { result.len ≤ 64 }
-{
-    match line {
-        Line::Refused {
-            ordinal,
-            taken,
-            fault,
-        } => {
-            let mut draft = stamped(*ordinal, *taken);
-            draft.push_text(b"refused ");
-            draft.push_number(fault.number() as u64);
-            draft
+impl<'a> Line<'a> {
+    // The line up to a frame's octets.
+    fn head(&self) -> ArrayString<64>
+        ensures { result.bytes ≡ head_text self.now }
+    {
+        let mut digits = Buffer::new();
+        match self {
+            Line::Refused { stamp, fault } => {
+                let mut head = stamp.text();
+                head.push_str("refused ");
+                head.push_str(digits.format(fault.number()));
+                head
+            }
+            Line::Aborted { stamp } => {
+                let mut head = stamp.text();
+                head.push_str("aborted");
+                head
+            }
+            Line::Frame { stamp, .. } => {
+                let mut head = stamp.text();
+                head.push_str("frame ");
+                head
+            }
+            Line::Taken { total } => {
+                let mut head = ArrayString::new();
+                head.push_str("taken ");
+                head.push_str(digits.format(*total));
+                head
+            }
         }
-        Line::Aborted { ordinal, taken } => {
-            let mut draft = stamped(*ordinal, *taken);
-            draft.push_text(b"aborted");
-            draft
-        }
-        Line::Frame {
-            ordinal,
-            taken,
-            octets: _,
-        } => {
-            let mut draft = stamped(*ordinal, *taken);
-            draft.push_text(b"frame ");
-            draft
-        }
-        Line::Taken { total } => {
-            let mut draft = Draft::new();
-            draft.push_text(b"taken ");
-            draft.push_number(*total);
-            draft
+    }
+
+    // A frame's octets; none of any other line.
+    fn octets(self) -> &'a [u8]
+        ensures { result.now ≡ frame_octets self.entry }
+    {
+        match self {
+            Line::Frame { octets, .. } => octets,
+            _ => &[],
         }
     }
 }
 
-// A verdict's ordinal and all bits taken so far.
-fn stamped(ordinal: u64, taken: u64) -> Draft
-    ensures text { drafted result ≡ stamp ordinal taken }
-    ensures few { result.len ≤ 42 }
-{
-    let mut draft = Draft::new();
-    draft.push_number(ordinal);
-    draft.push(b' ');
-    draft.push_number(taken);
-    draft.push(b' ');
-    draft
-}
-
-// A frame's octets; none of any other line.
-fn octets_of<'a>(line: Line<'a>) -> &'a [u8]
-    ensures { result.now ≡ frame_octets line.entry }
-{
-    match line {
-        Line::Refused {
-            ordinal: _,
-            taken: _,
-            fault: _,
-        } => &[],
-        Line::Aborted {
-            ordinal: _,
-            taken: _,
-        } => &[],
-        Line::Frame {
-            ordinal: _,
-            taken: _,
-            octets,
-        } => octets,
-        Line::Taken { total: _ } => &[],
+impl Stamp {
+    // Two numbers of at most 20 digits, and a space behind each.
+    fn text(self) -> ArrayString<64>
+        ensures text { result.bytes ≡ stamp self }
+        ensures few { array_string_len result ≤ 42 }
+    {
+        let mut digits = Buffer::new();
+        let mut text = ArrayString::new();
+        text.push_str(digits.format(self.ordinal));
+        text.push_str(" ");
+        text.push_str(digits.format(self.taken));
+        text.push_str(" ");
+        text
     }
 }

@@ -15,7 +15,7 @@ fn declined(debt: Debt) -> usize {
     let mut sink = PackedSink::new(&mut memory, 512);
     match decline(debt, &mut sink, true, 0x10, 60) {
         Ok(bits) => bits,
-        Err(_) => unreachable(),
+        Err(_) => unreachable!(),
     }
 }
 
@@ -25,7 +25,7 @@ fn replied(debt: Debt, frame: &Frame<'_>) -> usize {
     let mut sink = PackedSink::new(&mut memory, 512);
     let first = match reply(debt, &mut sink, true, &[0x82]) {
         Ok(bits) => bits,
-        Err(_) => unreachable(),
+        Err(_) => unreachable!(),
     };
     match write_frame(&mut sink, frame) {
         Ok(bits) => first.saturating_add(bits),
@@ -33,24 +33,10 @@ fn replied(debt: Debt, frame: &Frame<'_>) -> usize {
     }
 }
 
-// How many bits the answer to the command took; none where nothing is owed.
-fn first_answer() -> usize {
-    match check(&COMMAND) {
-        Err(_) => 0,
-        Ok(
-            Checked {
-                frame: _,
-                parameters: _,
-                debt,
-            },
-        ) => match debt {
-            None => 0,
-            Some(debt) => declined(debt),
-        },
-    }
-}
-
-fn second_answer() -> usize {
+// How many bits the command's debt was paid in, one way or another; none where nothing is owed.
+fn paid<F: FnOnce(Debt, &Frame<'_>) -> usize>(pay: F) -> usize
+    requires { F.IsAlwaysCallable pay }
+{
     match check(&COMMAND) {
         Err(_) => 0,
         Ok(
@@ -61,14 +47,14 @@ fn second_answer() -> usize {
             },
         ) => match debt {
             None => 0,
-            Some(debt) => replied(debt, &frame),
+            Some(debt) => pay(debt, &frame),
         },
     }
 }
 
 fn main(rt: HostRuntime) -> anyhow::Result<()> {
-    let first = first_answer();
-    let second = second_answer();
+    let first = paid(|debt, _| declined(debt));
+    let second = paid(replied);
     println!(rt; "declined in {first} bits")?;
     println!(rt; "replied and wrote in {second} bits")?;
     Ok(())

@@ -3,6 +3,8 @@ use Rattle.std.proofs.Common.{◌≡◌, ℕ, ◌+◌, ◌<◌, ◌≤◌, List,
 use mathlib.Core.List.{head-eq_of_cons-eq, tail-eq_of_cons-eq}
 use Rattle.std.specs.List.{AllByRecursion}
 use Rattle.std.proofs.lemmas.List.{append_cancel_left}
+use Rattle.std.proofs.lemmas.Simd.{map-map}
+use Rattle.bits.specs.Sink.{Shown}
 use Rattle.cutting.specs.Cutting.{Bits, flag, Verdict, frame, Placed, AllDue}
 use Rattle.cutting.specs.Stuffing.{put_bits}
 use Rattle.cutting.specs.StuffingLaws.{put_from}
@@ -13,12 +15,13 @@ use Rattle.frame.specs.Opening.{Content, layout, Layable, First}
 use Rattle.frame.proofs.Layouts.{layout_is_one, layout_has_no_fault}
 use Rattle.writer.specs.Lists.{ordered, ListWritten}
 use Rattle.writer.specs.declared.list.Order.{Order}
-use Rattle.path.specs.Carrying.{arrived_content, arrived_placed, Judges, opened_content, Arrives, Carries}
+use Rattle.path.specs.Carrying.{arrived_content, arrived_placed, found_verdict, Judges, opened_content, Arrives, Carries}
 use Rattle.path.specs.Dry.{placed, HearsAll, HearsSome}
 use Rattle.path.specs.Runs.{later}
 use Rattle.path.specs.declared.dry.Event.{Event}
 use Rattle.path.specs.declared.carrying.Arrived.{Arrived}
-use Rattle.path.specs.declared.carrying.Arrived.TheVariants.{Aborted, Refused, Unopened, Opened}
+use Rattle.path.specs.declared.carrying.Found.{Found}
+use Rattle.path.specs.declared.carrying.Found.TheVariants.{Aborted, Refused, Unopened, Opened}
 use Rattle.path.proofs.Behind.{same-behind}
 use Rattle.path.proofs.Joins.{all_join, all_within}
 use Rattle.path.proofs.Written.{layouts_are, layable_list, all_sendable, put_later, put_verdicts}
@@ -63,23 +66,23 @@ every_end P [] ys h = h
 every_end P (x ∷ xs) ys h = every_end P xs ys h.1
 
 -- octets that were laid out are opened to what they were laid out from
-opened_is : (a : Arrived) (c : Content) → Judges a → Layable c → (arrived_placed a).verdict ≡ frame (layout c) → opened_content a ≡ Some c
-opened_is (Aborted place) c j l e = absurd (let z : ◌≡◌ {A = ℕ} 0 1 = cc in omega arith)
-opened_is (Refused place fault) c j l e = absurd (let z : ◌≡◌ {A = ℕ} 0 1 = cc in omega arith)
-opened_is (Unopened place octets fault) c j l e =
+opened_is : (f : Found) (c : Content) → Judges f → Layable c → found_verdict f ≡ frame (layout c) → opened_content f ≡ Some c
+opened_is Aborted c j l e = absurd (let z : ◌≡◌ {A = ℕ} 0 1 = cc in omega arith)
+opened_is (Refused fault) c j l e = absurd (let z : ◌≡◌ {A = ℕ} 0 1 = cc in omega arith)
+opened_is (Unopened octets fault) c j l e =
     let same : vec_items octets ≡ layout c = cc in
     absurd (layout_has_no_fault c fault l (subst (λ (os : List ℕ). First os fault) same j))
-opened_is (Opened place a) c j l e =
+opened_is (Opened a) c j l e =
     let same : layout (arrived_content a) ≡ layout c = cc in
     ap {B = Option Content} Some (layout_is_one (arrived_content a) c j.0 l same)
 
-opened_are : (arrivals : List Arrived) (frames : List Content) → AllByRecursion Judges arrivals → AllByRecursion Layable frames
-    → map (λ a. (arrived_placed a).verdict) arrivals ≡ map (λ c. frame (layout c)) frames → map opened_content arrivals ≡ map Some frames
+opened_are : (arrivals : List Arrived) (frames : List Content) → AllByRecursion (λ a. Judges a.found) arrivals → AllByRecursion Layable frames
+    → map (λ a. (arrived_placed a).verdict) arrivals ≡ map (λ c. frame (layout c)) frames → map (λ a. opened_content a.found) arrivals ≡ map Some frames
 opened_are [] [] j l e = refl
 opened_are [] (c ∷ frames) j l e = absurd (let z : ◌≡◌ {A = ℕ} 0 1 = cc in omega arith)
 opened_are (a ∷ arrivals) [] j l e = absurd (let z : ◌≡◌ {A = ℕ} 0 1 = cc in omega arith)
 opened_are (a ∷ arrivals) (c ∷ frames) j l e =
-    let x = opened_is a c j.0 l.0 (head-eq_of_cons-eq e) in
+    let x = opened_is a.found c j.0 l.0 (head-eq_of_cons-eq e) in
     let y = opened_are arrivals frames j.1 l.1 (tail-eq_of_cons-eq e) in
     cc
 
@@ -89,7 +92,7 @@ verdicts_of n (a ∷ arrivals) = ap {B = List Verdict} (λ l. (arrived_placed a)
 
 -- frames laid out and put behind a flag that ends no sooner than the history does
 pub arrives : (h before pre put : Bits) (arrivals : List Arrived) (frames : List Content) → length h ≤ length pre + 8 → h ++ before ≡ pre ++ (flag ++ put)
-    → AllDue (h ++ before) (length h) (map (λ a. later (length h) (arrived_placed a)) arrivals) → AllByRecursion Judges arrivals → put ≡ put_bits (map layout frames) → AllByRecursion Layable frames
+    → AllDue (h ++ before) (length h) (map (λ a. later (length h) (arrived_placed a)) arrivals) → AllByRecursion (λ a. Judges a.found) arrivals → put ≡ put_bits (map layout frames) → AllByRecursion Layable frames
     → Arrives (length h) (length pre + 8) arrivals frames
 arrives h before pre put arrivals frames late row told judged is laid =
     let heard : Arrived → Placed = λ a. later (length h) (arrived_placed a) in
@@ -107,19 +110,19 @@ arrives h before pre put arrivals frames late row told judged is laid =
       all = by.all;
       sooner = every_back (λ p. p.place ≤ length pre + 8) heard by.front (subst (AllByRecursion (λ p. p.place ≤ length pre + 8)) (sym by.front_is) cut.2);
       later = every_back (λ p. length pre + 8 < p.place) heard by.back (subst (AllByRecursion (λ p. length pre + 8 < p.place)) (sym by.back_is) behind);
-      are = opened_are by.back frames (every_end Judges by.front by.back (subst (AllByRecursion Judges) by.all judged)) laid
+      are = opened_are by.back frames (every_end (λ a. Judges a.found) by.front by.back (subst (AllByRecursion (λ a. Judges a.found)) by.all judged)) laid
           (sym (verdicts_of (length h) by.back) ∙ ap {B = List Verdict} (map (λ p. p.verdict)) by.back_is ∙ put_verdicts (length pre) 8 frames);
     }
 
 -- so of a list that was written
-pub list_arrives : (h before pre put held held' : Bits) (room room' n : ℕ) (orders : List Order) (buffer : List ℕ) (arrivals : List Arrived)
-    → length h ≤ length pre + 8 → h ++ before ≡ pre ++ (flag ++ put) → held' ≡ held ++ put → ListWritten orders buffer held room (Ok n) held' room'
-    → AllDue (h ++ before) (length h) (map (λ a. later (length h) (arrived_placed a)) arrivals) → AllByRecursion Judges arrivals
+pub list_arrives : (h before pre put : Bits) (sink sink' : Shown) (n : ℕ) (orders : List Order) (buffer : List ℕ) (arrivals : List Arrived)
+    → length h ≤ length pre + 8 → h ++ before ≡ pre ++ (flag ++ put) → sink'.held ≡ sink.held ++ put → ListWritten orders buffer sink (Ok n) sink'
+    → AllDue (h ++ before) (length h) (map (λ a. later (length h) (arrived_placed a)) arrivals) → AllByRecursion (λ a. Judges a.found) arrivals
     → Arrives (length h) (length pre + 8) arrivals (map (ordered buffer) orders)
-list_arrives h before pre put held held' room room' n orders buffer arrivals late row more written told judged =
+list_arrives h before pre put sink sink' n orders buffer arrivals late row more written told judged =
     let is : put ≡ put_bits (map layout (map (ordered buffer) orders)) =
-    append_cancel_left held put (put_bits (map layout (map (ordered buffer) orders))) (sym more ∙ written.1.added ∙ ap {B = Bits} (λ l. held ++ put_bits l) (layouts_are buffer orders)) in
-    arrives h before pre put arrivals (map (ordered buffer) orders) late row told judged is (layable_list buffer room orders written.0)
+    append_cancel_left sink.held put (put_bits (map layout (map (ordered buffer) orders))) (sym more ∙ written.1.added ∙ ap {B = Bits} (λ l. sink.held ++ put_bits l) (layouts_are buffer orders)) in
+    arrives h before pre put arrivals (map (ordered buffer) orders) late row told judged is (layable_list buffer sink.space orders written.0)
 
 -- all that waited was taken
 pub hears_some : (was is : Bits → Type 0) (before after : Bits) (taken : ℕ) (events : List Event) → HearsAll was is before after taken events → HearsSome was is before after
@@ -128,24 +131,20 @@ hears_some was is before after taken events all =
 
 same_places : (n : ℕ) (events : List Event) (arrivals : List Arrived) → map arrived_placed arrivals ≡ map placed events
     → map (λ e. later n (placed e)) events ≡ map (λ a. later n (arrived_placed a)) arrivals
-same_places n events arrivals e = sym (map-map placed events) ∙ ap {B = List Placed} (map (later n)) (sym e) ∙ map-map arrived_placed arrivals
-  where
-    map-map : {X : Type 0} (f : X → Placed) (xs : List X) → map (later n) (map f xs) ≡ map (λ x. later n (f x)) xs
-    map-map f [] = refl
-    map-map f (x ∷ xs) = ap {B = List Placed} (λ l. later n (f x) ∷ l) (map-map f xs)
+same_places n events arrivals e = sym (map-map (later n) placed events) ∙ ap {B = List Placed} (map (later n)) (sym e) ∙ map-map (later n) arrived_placed arrivals
 
-pub carried : (was is : Bits → Type 0) (before after held held' : Bits) (room room' : ℕ) (orders : List Order) (buffer : List ℕ) (bits taken : ℕ) (events : List Event) (arrivals : List Arrived)
-    → ListWritten orders buffer held room (Ok bits) held' room' → HearsAll was is before after taken events
-    → (map arrived_placed arrivals ≡ map placed events) × AllByRecursion Judges arrivals
-    → Carries was is before after held held' room room' orders buffer bits taken arrivals
-carried was is before after held held' room room' orders buffer bits taken events arrivals written heard opened =
+pub carried : (was is : Bits → Type 0) (before after : Bits) (sink sink' : Shown) (orders : List Order) (buffer : List ℕ) (bits taken : ℕ) (events : List Event) (arrivals : List Arrived)
+    → ListWritten orders buffer sink (Ok bits) sink' → HearsAll was is before after taken events
+    → (map arrived_placed arrivals ≡ map placed events) × AllByRecursion (λ a. Judges a.found) arrivals
+    → Carries was is before after sink sink' orders buffer bits taken arrivals
+carried was is before after sink sink' orders buffer bits taken events arrivals written heard opened =
     record {
       written = written;
       dry = heard.dry;
       counts = heard.counts;
       told = λ h w. ((heard.told h w).0, told h w);
       judged = opened.1;
-      kept = λ h pre put w late row more. list_arrives h before pre put held held' room room' bits orders buffer arrivals late row more written (told h w) opened.1;
+      kept = λ h pre put w late row more. list_arrives h before pre put sink sink' bits orders buffer arrivals late row more written (told h w) opened.1;
     }
   where
     told : (h : Bits) → was h → AllDue (h ++ before) (length h) (map (λ a. later (length h) (arrived_placed a)) arrivals)

@@ -1,5 +1,6 @@
 -- What a row of listenings has heard so far, and what it comes to when no bit waits.
 use Rattle.std.proofs.Common.{◌≡◌, ℕ, ◌+◌, List, [], ◌∷◌, ◌++◌, map, length, sym, refl, ap, ◌∙◌, subst, append_assoc, append-nil, arith, length-append}
+use Rattle.std.proofs.lemmas.Simd.{map-map}
 use Rattle.std.proofs.lemmas.List.{map-append}
 use Rattle.cutting.specs.Cutting.{Bits, Placed, AllDue}
 use Rattle.receiver.specs.Answers.{verdict_of}
@@ -86,9 +87,5 @@ hearing_dry was is before after taken events so_far dry = record {
 
     whole : (h : Bits) → was h → AllDue (h ++ before) (length h) (map (λ e. later (length h) (placed e)) events)
     whole h w =
-        subst (AllDue (h ++ before) (length h)) (append-nil (map (later (length h)) (map placed events)) ∙ map-map (later (length h)) events)
+        subst (AllDue (h ++ before) (length h)) (append-nil (map (later (length h)) (map placed events)) ∙ map-map (later (length h)) placed events)
         ((so_far.told h w).1 [] (subst (λ x. AllDue (h ++ before) (length (h ++ x)) []) all-bits (none-behind (h ++ before))))
-      where
-        map-map : (f : Placed → Placed) (es : List Event) → map f (map placed es) ≡ map (λ e. f (placed e)) es
-        map-map f [] = refl
-        map-map f (e ∷ es) = ap (λ l. f (placed e) ∷ l) (map-map f es)

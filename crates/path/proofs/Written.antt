@@ -2,9 +2,11 @@
 use Rattle.std.proofs.Common.{◌≡◌, ℕ, ◌+◌, ◌-◌, ◌<◌, ◌≤◌, List, [], ◌∷◌, ◌++◌, map, length, None, Ok, Err, sym, refl, ap, ◌∙◌, subst, append_assoc, append-nil, arith}
 use mathlib.Core.List.{head-eq_of_cons-eq, tail-eq_of_cons-eq}
 use Rattle.std.specs.List.{AllByRecursion}
+use Rattle.bits.specs.Sink.{Shown}
 use Rattle.cutting.specs.Cutting.{Bits, flag, Verdict, frame, Placed, AllDue}
 use Rattle.cutting.specs.Stuffing.{frame_bits, put_bits, Sendable}
 use Rattle.cutting.specs.StuffingLaws.{put_from}
+use Rattle.std.proofs.ByRecursion.{All-append, All-weaker}
 use Rattle.std.proofs.lemmas.List.{map-append, append_cancel_left}
 use Rattle.cutting.proofs.Written.{put_append, put_apart, put_cut_behind}
 use Rattle.frame.proofs.Words.{address_octets_below}
@@ -17,14 +19,6 @@ use Rattle.xid.specs.Reading.{Reading}
 use Rattle.composer.specs.Composing.{params_of}
 use Rattle.path.specs.Ends.{Writes, begins, writes, lists, Puts, Behind, OpensTo, ReadsTo}
 use Rattle.path.specs.Runs.{Leg, Told, later}
-
-every_join : {X : Type 0} (P : X → Type 0) (xs ys : List X) → AllByRecursion P xs → AllByRecursion P ys → AllByRecursion P (xs ++ ys)
-every_join P [] ys h k = k
-every_join P (x ∷ xs) ys h k = (h.0, every_join P xs ys h.1 k)
-
-pub every_of : {X : Type 0} {P Q : X → Type 0} → ((x : X) → P x → Q x) → (xs : List X) → AllByRecursion P xs → AllByRecursion Q xs
-every_of f [] h = tt
-every_of f (x ∷ xs) h = (f x h.0, every_of f xs h.1)
 
 -- a frame that is laid out may be sent
 pub sendable : (c : Content) → Layable c → Sendable (layout c)
@@ -62,7 +56,7 @@ more start held held' bits frames others a laid e is =
           e ∙ ap {B = Bits} (λ h. h ++ bits) a.put ∙ append_assoc start (put_bits (map layout frames)) bits
           ∙ ap {B = Bits} (λ b. start ++ (put_bits (map layout frames) ++ b)) is
           ∙ ap {B = Bits} (λ b. start ++ b) (sym (put_append (map layout frames) (map layout others)) ∙ ap {B = Bits} put_bits (sym (map-append layout frames others)));
-      laid = every_join Layable frames others a.laid laid;
+      laid = All-append Layable frames others a.laid laid;
     }
 
 same : (start held held' : Bits) (frames : List Content) → Added start held frames → held' ≡ held → Added start held' (frames ++ [])
@@ -70,21 +64,21 @@ same start held held' frames a e =
     more start held held' [] frames [] a tt (e ∙ sym (append-nil held)) refl
 
 -- what a run of the writer put
-pub added : {start : Bits} {room : ℕ} {held : Bits} {space : ℕ} {frames : List Content} → Writes start room held space frames → Added start held frames
-added {start} begins = record { put = sym (append-nil start); laid = tt }
-added {start} (writes {held} {held'} {frames = frames} w c (Ok n) h) =
-    more start held held' (frame_bits (layout c)) frames (c ∷ []) (added w) (h.0.layable, tt) h.1.added (sym (append-nil (frame_bits (layout c))))
-added {start} (writes {held} {held'} {frames = frames} w c (Err e) h) = same start held held' frames (added w) h.1
-added {start} (lists {held} {held'} {space} {frames = frames} w orders buffer (Ok n) h) =
-    more start held held' (put_bits (layouts buffer orders)) frames (map (ordered buffer) orders) (added w) (layable_list buffer space orders h.0) h.1.added
+pub added : {start k : Shown} {frames : List Content} → Writes start k frames → Added start.held k.held frames
+added {start} begins = record { put = sym (append-nil start.held); laid = tt }
+added {start} (writes {k} {k'} {frames} w c (Ok n) h) =
+    more start.held k.held k'.held (frame_bits (layout c)) frames (c ∷ []) (added w) (h.0.layable, tt) h.1.added (sym (append-nil (frame_bits (layout c))))
+added {start} (writes {k} {k'} {frames} w c (Err e) h) = same start.held k.held k'.held frames (added w) (ap {B = Bits} (λ x. x.held) h.1)
+added {start} (lists {k} {k'} {frames} w orders buffer (Ok n) h) =
+    more start.held k.held k'.held (put_bits (layouts buffer orders)) frames (map (ordered buffer) orders) (added w) (layable_list buffer k.space orders h.0) h.1.added
     (ap {B = Bits} put_bits (layouts_are buffer orders))
-added {start} (lists {held} {held'} {frames = frames} w orders buffer (Err e) h) = same start held held' frames (added w) h.1
+added {start} (lists {k} {k'} {frames} w orders buffer (Err e) h) = same start.held k.held k'.held frames (added w) (ap {B = Bits} (λ x. x.held) h.1)
 
 -- the frames of a run, and the bits that they added
 pub puts_laid : (frames : List Content) (bits : Bits) → Puts frames bits → (bits ≡ put_bits (map layout frames)) × AllByRecursion Layable frames
 puts_laid frames bits p =
     let a = added p.run in
-    (append_cancel_left p.start bits (put_bits (map layout frames)) a.put, a.laid)
+    (append_cancel_left p.start.held bits (put_bits (map layout frames)) (sym p.added ∙ a.put), a.laid)
 
 -- frames put from place k on, n places later: they lie behind that place, and their verdicts are the frames
 pub put_later : (n k m : ℕ) (frames : List Content) → k ≤ m → AllByRecursion (λ p. n + k < p.place) (map (later n) (put_from m (map layout frames)))
@@ -123,7 +117,7 @@ reads c l items values old new n a e = subst (λ (os : List ℕ). Reading os (pa
 pub written_read : (frames : List Content) (bits : Bits) → Puts frames bits → AllByRecursion OpensTo frames × AllByRecursion ReadsTo frames
 written_read frames bits p =
     let q = puts_laid frames bits p in
-    (every_of opens frames q.1, every_of reads frames q.1)
+    (All-weaker Layable OpensTo opens frames q.1, All-weaker Layable ReadsTo reads frames q.1)
 
 -- layouts that are the same are of the same frames
 laid_apart : (frames others : List Content) → AllByRecursion Layable frames → AllByRecursion Layable others → map layout frames ≡ map layout others → frames ≡ others

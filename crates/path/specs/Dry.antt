@@ -1,17 +1,21 @@
 -- Listening until no bit waits, from any history.
 use Rattle.std.specs.Prelude.{◌≡◌, ℕ, ◌≤◌, List, [], ◌++◌, map, length, vec_items}
-use Rattle.cutting.specs.Cutting.{Bits, aborted, refused, frame, Placed, AllDue}
+use Rattle.cutting.specs.Cutting.{Bits, Verdict, aborted, refused, frame, Placed, AllDue}
 use Rattle.receiver.specs.declared.answer.Answer.{Answer}
 use Rattle.receiver.specs.declared.answer.Answer.TheVariants as answer
 use Rattle.path.specs.Runs.{later}
 use Rattle.path.specs.declared.dry.Event.{Event}
-use Rattle.path.specs.declared.dry.Event.TheVariants.{Aborted, Refused, Frame}
+use Rattle.path.specs.declared.dry.Verdict.{Verdict as Told}
+use Rattle.path.specs.declared.dry.Verdict.TheVariants.{Aborted, Refused, Frame}
 
--- an event as a placed verdict; its place counts the bits of this call
+-- the verdict that was told, and an event as a placed verdict; its place counts the bits of this call
+abbrev pub told : Told → Verdict
+told Aborted = aborted
+told (Refused fault) = refused fault
+told (Frame octets) = frame (vec_items octets)
+
 abbrev pub placed : Event → Placed
-placed (Aborted e) = record { place = e; verdict = aborted }
-placed (Refused e f) = record { place = e; verdict = refused f }
-placed (Frame e os) = record { place = e; verdict = frame (vec_items os) }
+placed e = record { place = e.place; verdict = told e.verdict }
 
 -- a frame lies within the buffer
 abbrev pub FitsIn : Answer → ℕ → Type 0

@@ -1,6 +1,7 @@
 -- Runs of the writer, and the promise that ties both ends: what is written is what is heard.
 use Rattle.std.specs.Prelude.{◌≡◌, ℕ, ◌+◌, ◌<◌, ◌≤◌, List, [], ◌∷◌, ◌++◌, map, length, take, None, Ok, Err, Result}
 use Rattle.std.specs.List.{AllByRecursion}
+use Rattle.bits.specs.Sink.{Shown}
 use Rattle.cutting.specs.Cutting.{Bits, flag, Verdict, frame, Placed}
 use Rattle.frame.specs.Opening.{Content, content, layout, Opened}
 use Rattle.faults.specs.declared.FrameFault.{FrameFault}
@@ -25,22 +26,22 @@ abbrev pub wrote_list : List Order → List ℕ → Result ℕ ListError → Lis
 wrote_list orders buffer (Ok n) = map (ordered buffer) orders
 wrote_list orders buffer (Err e) = []
 
--- a run of the writer into one sink that nothing else touches: what the sink held and its room at the start and now, and the frames that were
--- accepted, in order; each step is what the contract of that call says
-pub data Writes (start : Bits) (room : ℕ) : Bits → ℕ → List Content → Type 0 where
-  begins : Writes start room start room []
-  writes : {held held' : Bits} {space space' : ℕ} {frames : List Content} → Writes start room held space frames
-      → (c : Content) (r : Result ℕ WriteError) → Written c held space r held' space' → Writes start room held' space' (frames ++ wrote c r)
-  lists : {held held' : Bits} {space space' : ℕ} {frames : List Content} → Writes start room held space frames
-      → (orders : List Order) (buffer : List ℕ) (r : Result ℕ ListError) → ListWritten orders buffer held space r held' space'
-      → Writes start room held' space' (frames ++ wrote_list orders buffer r)
+-- a run of the writer into one sink that nothing else touches: what the sink shows at the start and now, and the frames that were accepted, in
+-- order; each step is what the contract of that call says
+pub data Writes (start : Shown) : Shown → List Content → Type 0 where
+  begins : Writes start start []
+  writes : {k k' : Shown} {frames : List Content} → Writes start k frames
+      → (c : Content) (r : Result ℕ WriteError) → Written c k r k' → Writes start k' (frames ++ wrote c r)
+  lists : {k k' : Shown} {frames : List Content} → Writes start k frames
+      → (orders : List Order) (buffer : List ℕ) (r : Result ℕ ListError) → ListWritten orders buffer k r k'
+      → Writes start k' (frames ++ wrote_list orders buffer r)
 
 -- the accepted frames, and the bits that they added
 pub record Puts (frames : List Content) (bits : Bits) : Type 0 where
-  pub start : Bits
-  pub room : ℕ
-  pub space : ℕ
-  pub run : Writes start room (start ++ bits) space frames
+  pub start : Shown
+  pub now : Shown
+  pub run : Writes start now frames
+  pub added : now.held ≡ start.held ++ bits
 
 -- behind a place the verdicts are these, in order, and no others
 pub record Behind (n : ℕ) (verdicts : List Placed) (these : List Verdict) : Type 0 where

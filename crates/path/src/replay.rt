@@ -9,14 +9,14 @@ use receiver::{Answer, Receiver};
 use std::alloc::{AllocError, Global};
 
 // A listening with its allowance and the length of the buffer that it is lent, or a carrier loss.
-#[derive(Clone, Copy)]
+#[derive(Clone, Copy, PartialEq, Eq, Debug)]
 pub enum Call {
     Listen { allowance: u32, room: usize },
     CarrierLoss,
 }
 
 // What a call came to: refused with 1; an answer with the bits taken and a frame's octets; the carrier lost.
-#[derive(Drop)]
+#[derive(Drop, PartialEq, Eq, Debug)]
 pub enum Outcome {
     Refused,
     Heard {
@@ -34,8 +34,8 @@ pub fn replay<S: BitSource>(
     calls: &[Call],
 ) -> Result<Vec<Outcome>, AllocError>
     ensures { MatchResult result
-        (λ v. Replayed (S.BitSource.waiting source.old) (S.BitSource.waiting source.new) calls.now v.items)
-        (λ _. ((t : Bits) × (S.BitSource.waiting source.old ≡ t ++ S.BitSource.waiting source.new))) }
+        (λ v. Replayed (S.waiting source.old) (S.waiting source.new) calls.now v.items)
+        (λ _. ((t : Bits) × (S.waiting source.old ≡ t ++ S.waiting source.new))) }
 {
     let mut outcomes = Vec::new(heap);
     let mut receiver = Receiver::new();
@@ -54,7 +54,7 @@ fn perform<S: BitSource>(
     call: Call,
 ) -> Result<Outcome, AllocError>
     ensures { MatchResult result
-        (λ o. Performs call o receiver.old receiver.new (S.BitSource.waiting source.old) (S.BitSource.waiting source.new))
+        (λ o. Performs call o receiver.old receiver.new (S.waiting source.old) (S.waiting source.new))
         (λ _. (receiver.new ≡ receiver.old) × (source.new ≡ source.old)) }
 {
     match call {

@@ -2,26 +2,22 @@
 use Rattle.std.proofs.Common.{◌≡◌, ◌-◌, ◌<◌, ◌≤◌, Bool, true, false, [], ◌∷◌, ◌++◌, reverse, length, take, Some, None, Option, sym, ap, ◌∙◌, arith}
 use mathlib.Core.Option.{some}
 use mathlib.Core.Option as scanned
-use Rattle.cutting.specs.Cutting.{Bits, removed, Applies, Verdict, refused}
+use Rattle.cutting.specs.Cutting.{Bits, removed, Applies, Judged, Verdict, refused}
 use Rattle.cutting.specs.declared.Fault.TheVariants.{MissingZero}
-use Rattle.cutting.proofs.Judging.{judged, judged_one}
+use Rattle.cutting.proofs.Judging.{judged_one}
 use Rattle.cutting.proofs.Scanner.{inside, emits, state_of}
 use Rattle.cutting.proofs.Scanner as scanner
 use Rattle.cutting.proofs.Keeping.{Six, kept, in_stretch, six, closes_nothing, closes_missing, closes_whole}
 use Rattle.receiver.specs.declared.store.Store.{Store}
 use Rattle.receiver.specs.declared.record.State.TheVariants.{Stretch}
 use Rattle.receiver.specs.Stands.{Holds, Inside}
-use Rattle.receiver.specs.Hearing.{DueNow, Judges}
+use Rattle.receiver.specs.Hearing.{DueNow}
 use Rattle.receiver.proofs.Matching.{stands_matches}
 use Rattle.receiver.proofs.Turns.{IsInside, is_inside, emitted, due_now}
 
-judges_emits : (x : Bits) (o : Option Verdict) → Judges x o → some (judged x) ≡ emitted o
-judges_emits x None j = absurd j
-judges_emits x (Some v) j = ap {B = scanned.Option Verdict} some (judged_one x v j)
-
 module _ (h : Bits) (out : Bool) (store : Store) (was : Inside 6 out store h) where
   at : IsInside 0 out store (state_of (reverse h))
-  at = is_inside 6 0 out store (state_of (reverse h)) (omega arith) (stands_matches h 6 out store Stretch was)
+  at = is_inside 6 0 out store (state_of (reverse h)) (omega arith) (stands_matches h store (Stretch 6 out) was)
 
   behind_six : (raw : Bits) → state_of (reverse h) ≡ inside raw 0 → Six raw
   behind_six raw s = six raw (in_stretch (reverse h) raw 0 s)
@@ -35,9 +31,9 @@ module _ (h : Bits) (out : Bool) (store : Store) (was : Inside 6 out store h) wh
   pub closes_unclosed : 6 < store.count → out ≡ true → DueNow (h ++ false ∷ []) (Some (refused MissingZero))
   closes_unclosed many e = let c = at.holds.counted in falls (Some (refused MissingZero)) (closes_missing at.raw (behind_six at.raw at.state) (omega arith) (sym at.out_is ∙ e))
 
-  pub closes_judged : 6 < store.count → out ≡ false → (o : Option Verdict)
-      → ((x held : Bits) → (Applies MissingZero x → ⊥) → Holds store held → removed x ≡ take (length held - 6) held → Judges x o) → DueNow (h ++ false ∷ []) o
-  closes_judged many e o told =
+  pub closes_judged : 6 < store.count → out ≡ false → (v : Verdict)
+      → ((x held : Bits) → (Applies MissingZero x → ⊥) → Holds store held → removed x ≡ take (length held - 6) held → Judged x v) → DueNow (h ++ false ∷ []) (Some v)
+  closes_judged many e v told =
       let c = at.holds.counted in
       let w = closes_whole at.raw (behind_six at.raw at.state) (omega arith) (sym at.out_is ∙ e) in
-      falls o (w.3 ∙ judges_emits w.0 o (told w.0 (kept at.raw) w.1 at.holds w.2))
+      falls (Some v) (w.3 ∙ ap {B = scanned.Option Verdict} some (judged_one w.0 v (told w.0 (kept at.raw) w.1 at.holds w.2)))

@@ -13,23 +13,23 @@ use Rattle.cutting.proofs.Removal.{left}
 use Rattle.cutting.proofs.Scanner.{lost, hunting, inside, state_of, ready, trail, trail-ready, ready-shape}
 use Rattle.cutting.proofs.Scanner as scanner
 use Rattle.cutting.proofs.Bridge.{Says, says, open_is_one}
-use Rattle.cutting.proofs.Keeping.{kept, is_zero, last_out, InStretch, in_stretch}
+use Rattle.cutting.proofs.Keeping.{kept, is_zero, last_out, InStretch, in_stretch, zero_of}
 use Rattle.receiver.specs.declared.store.Store.{Store}
 use Rattle.receiver.specs.declared.record.State.{State}
 use Rattle.receiver.specs.declared.record.State.TheVariants.{Hunting, Stretch, Idle}
 use Rattle.receiver.specs.Stands.{Holds, Behind, Stands}
 
 -- the scanner counts the ones that are still to come before six, the receiver those that came
-abbrev pub Matches : State → ℕ → Bool → Store → scanner.State → Type 0
-Matches Idle n out store lost = Unit {0}
-Matches Idle n out store (hunting k) = ⊥
-Matches Idle n out store (inside raw k) = ⊥
-Matches Hunting n out store lost = ⊥
-Matches Hunting n out store (hunting k) = n + k ≡ 6
-Matches Hunting n out store (inside raw k) = ⊥
-Matches Stretch n out store lost = ⊥
-Matches Stretch n out store (hunting k) = ⊥
-Matches Stretch n out store (inside raw k) = (n + k ≡ 6) × Holds store (kept raw) × (out ≡ last_out raw)
+abbrev pub Matches : State → Store → scanner.State → Type 0
+Matches Idle store lost = Unit {0}
+Matches Idle store (hunting k) = ⊥
+Matches Idle store (inside raw k) = ⊥
+Matches (Hunting n) store lost = ⊥
+Matches (Hunting n) store (hunting k) = n + k ≡ 6
+Matches (Hunting n) store (inside raw k) = ⊥
+Matches (Stretch n out) store lost = ⊥
+Matches (Stretch n out) store (hunting k) = ⊥
+Matches (Stretch n out) store (inside raw k) = (n + k ≡ 6) × Holds store (kept raw) × (out ≡ last_out raw)
 
 reverse-ones : (n : ℕ) → reverse (ones n) ≡ ones n
 reverse-ones zero = refl
@@ -64,10 +64,6 @@ ready_few : (k : ℕ) (h : Bits) → ready (reverse h) ≡ some k → k ≤ 6
 ready_few k h e = (ready-shape (reverse h) k e).0
 
 -- the last zero was left out exactly if what stands before it in the stretch ends in five ones
-zero_of : (n : ℕ) → is_zero n ≡ true → n ≡ 0
-zero_of zero e = refl
-zero_of (suc n) e = let z : ◌≡◌ {A = ℕ} 0 1 = cc in absurd (omega arith)
-
 last_ones : (n : ℕ) → last_out (ones n) ≡ false
 last_ones zero = refl
 last_ones (suc n) = last_ones n
@@ -130,31 +126,31 @@ module _ (h : Bits) (b m : ℕ) (raw : Bits) (is : raw ≡ reverse (part h b (le
   whole_kept = ap {B = Bits} (λ (w : Bits). removed (reverse w)) is ∙ ap {B = Bits} removed (reverse-reverse (part h b (length h))) ∙ ap {B = Bits} (λ (l : Bits). removed (drop b l)) (take-length h)
 
 -- what is known of the state behind h
-module _ (h : Bits) (n : ℕ) (out : Bool) (store : Store) where
+module _ (h : Bits) (store : Store) where
   abbrev Known : scanner.State → Type 0
   Known st = (trail st ≡ ready (reverse h)) × Says h (length h) st × ((raw : Bits) (k : ℕ) → st ≡ inside raw k → InStretch raw k)
 
   known : Known (state_of (reverse h))
   known = (trail-ready (reverse h), subst (λ (l : Bits). Says h (length h) (state_of (reverse l))) (take-length h) (says h (length h) (omega arith)), in_stretch (reverse h))
 
-  counts : (k : ℕ) → some k ≡ ready (reverse h) → n ≤ 6 → Behind n h → n + k ≡ 6
-  counts k t few b = let e = behind-ready n h few b in let z : k ≡ 6 - n = cc in omega arith
+  counts : (n k : ℕ) → some k ≡ ready (reverse h) → n ≤ 6 → Behind n h → n + k ≡ 6
+  counts n k t few b = let e = behind-ready n h few b in let z : k ≡ 6 - n = cc in omega arith
 
-  to : (state : State) (st : scanner.State) → Known st → Stands state n out store h → Matches state n out store st
+  to : (state : State) (st : scanner.State) → Known st → Stands state store h → Matches state store st
   to Idle lost i s = tt
   to Idle (hunting k) i s =
       let f = ready_few k h (sym i.0) in
       s.1 (6 - k) (omega arith) (ready-behind k (6 - k) h (sym i.0) (omega arith))
   to Idle (inside raw k) i s = s.0 i.1.0 i.1.1
-  to Hunting lost i s = let e = behind-ready n h s.1 s.2 in let t = i.0 in let z : ◌≡◌ {A = ℕ} 0 1 = cc in omega arith
-  to Hunting (hunting k) i s = counts k i.0 s.1 s.2
-  to Hunting (inside raw k) i s = s.0 i.1.0 i.1.1
-  to Stretch lost i s = i.1 s.begin s.opened
-  to Stretch (hunting k) i s = i.1 s.begin s.opened
-  to Stretch (inside raw k) i s =
+  to (Hunting n) lost i s = let e = behind-ready n h s.1 s.2 in let t = i.0 in let z : ◌≡◌ {A = ℕ} 0 1 = cc in omega arith
+  to (Hunting n) (hunting k) i s = counts n k i.0 s.1 s.2
+  to (Hunting n) (inside raw k) i s = s.0 i.1.0 i.1.1
+  to (Stretch n out) lost i s = i.1 s.begin s.opened
+  to (Stretch n out) (hunting k) i s = i.1 s.begin s.opened
+  to (Stretch n out) (inside raw k) i s =
       let same = open_is_one h i.1.0 s.begin (suc (length h)) i.1.1 s.opened in
       let is : raw ≡ reverse (part h s.begin (length h)) = i.1.2 ∙ ap {B = Bits} (λ (b : ℕ). reverse (part h b (length h))) same in
-      let sums = counts k i.0 s.few s.tail in
+      let sums = counts n k i.0 s.few s.tail in
       let o = out_applies raw n k (i.2 raw k refl) sums in
       let l = shorter h s.begin (suc n) raw is in (
         sums,
@@ -162,16 +158,16 @@ module _ (h : Bits) (n : ℕ) (out : Bool) (store : Store) where
         same_truth out (last_out raw) (λ e. o.1 (subst (Applies MissingZero) (sym l) (s.left.0 e))) (λ e. s.left.1 (subst (Applies MissingZero) l (o.0 e))),
       )
 
-  from : (state : State) (st : scanner.State) → Known st → Matches state n out store st → Stands state n out store h
+  from : (state : State) (st : scanner.State) → Known st → Matches state store st → Stands state store h
   from Idle lost i m = (i.1, λ k few b. let e = behind-ready k h few b in let t = i.0 in let z : ◌≡◌ {A = ℕ} 0 1 = cc in omega arith)
   from Idle (hunting k) i m = absurd m
   from Idle (inside raw k) i m = absurd m
-  from Hunting lost i m = absurd m
-  from Hunting (hunting k) i m = (i.1, omega arith, ready-behind k n h (sym i.0) m)
-  from Hunting (inside raw k) i m = absurd m
-  from Stretch lost i m = absurd m
-  from Stretch (hunting k) i m = absurd m
-  from Stretch (inside raw k) i m =
+  from (Hunting n) lost i m = absurd m
+  from (Hunting n) (hunting k) i m = (i.1, omega arith, ready-behind k n h (sym i.0) m)
+  from (Hunting n) (inside raw k) i m = absurd m
+  from (Stretch n out) lost i m = absurd m
+  from (Stretch n out) (hunting k) i m = absurd m
+  from (Stretch n out) (inside raw k) i m =
       let o = out_applies raw n k (i.2 raw k refl) m.0 in
       let l = shorter h i.1.0 (suc n) raw i.1.2 in
       record {
@@ -183,8 +179,8 @@ module _ (h : Bits) (n : ℕ) (out : Bool) (store : Store) where
         left = (λ e. subst (Applies MissingZero) l (o.0 (sym m.2 ∙ e)), λ a. m.2 ∙ o.1 (subst (Applies MissingZero) (sym l) a));
       }
 
-  pub stands_matches : (state : State) → Stands state n out store h → Matches state n out store (state_of (reverse h))
+  pub stands_matches : (state : State) → Stands state store h → Matches state store (state_of (reverse h))
   stands_matches state s = to state (state_of (reverse h)) known s
 
-  pub matches_stands : (state : State) → Matches state n out store (state_of (reverse h)) → Stands state n out store h
+  pub matches_stands : (state : State) → Matches state store (state_of (reverse h)) → Stands state store h
   matches_stands state m = from state (state_of (reverse h)) known m

@@ -1,8 +1,10 @@
 -- One bit more: what each turn of the receiver does, by the scanner's step.
-use Rattle.std.proofs.Common.{◌≡◌, ℕ, suc, ◌+◌, ◌-◌, ◌<◌, ◌≤◌, Bool, true, false, [], ◌∷◌, ◌++◌, reverse, length, Some, None, Option, sym, refl, ap, ◌∙◌, subst, append_assoc, arith}
+use Rattle.std.proofs.Common.{◌≡◌, ◌≢◌, ℕ, suc, ◌+◌, ◌-◌, ◌<◌, ◌≤◌, Bool, true, false, [], ◌∷◌, ◌++◌, reverse, length, Some, None, Option, sym, refl, ap, ◌∙◌, subst, append_assoc, arith}
 use mathlib.Core.Option.{none, some}
 use mathlib.Core.Option as scanned
 use mathlib.Core.List.{reverse-append}
+use Rattle.std.proofs.Math.Logic.{∥∥₁_map, ∥∥₁_elim}
+use Rattle.std.proofs.Math.Bridge.{le_prop}
 use Rattle.std.proofs.lemmas.List.{length_push}
 use Rattle.cutting.specs.Cutting.{Bits, flag, ones, Verdict, Due}
 use Rattle.cutting.proofs.Scanner.{lost, hunting, inside, step, emits, state_of}
@@ -10,13 +12,13 @@ use Rattle.cutting.proofs.Scanner as scanner
 use Rattle.cutting.proofs.Steps.{state_more, step-due, step-none}
 use Rattle.cutting.proofs.Keeping.{kept, last_out, in_stretch, kept_in, kept_out, out_zero, six, breaks_nothing, breaks_off}
 use Rattle.cutting.proofs.Local.{flag_lands}
-use Rattle.receiver.specs.declared.answer.Answer.{Answer}
-use Rattle.receiver.specs.declared.answer.Answer.TheVariants.{Aborted}
+use Rattle.receiver.specs.declared.verdict.Verdict.{Verdict as Found}
+use Rattle.receiver.specs.declared.verdict.Verdict.TheVariants.{Aborted}
 use Rattle.receiver.specs.declared.store.Store.{Store}
 use Rattle.receiver.specs.declared.record.State.{State}
 use Rattle.receiver.specs.declared.record.State.TheVariants.{Hunting, Stretch, Idle}
 use Rattle.receiver.specs.declared.record.Receiver.{Receiver}
-use Rattle.receiver.specs.Stands.{Holds, Behind, Inside, Stands}
+use Rattle.receiver.specs.Stands.{Holds, Behind, Stands}
 use Rattle.receiver.specs.Hearing.{HasHeard, DueNow, verdict_if_any, Hears}
 use Rattle.receiver.proofs.Matching.{Matches, stands_matches, matches_stands}
 
@@ -34,38 +36,53 @@ due_now h b (Some v) e =
     subst (λ (n : ℕ). Due (h ++ b ∷ []) n v) (sym long) (step-due h b [] v e)
 
 -- what `Hears` says, by the record's fields
-pub record Turn (h : Bits) (b : Bool) (a : Option Answer) (state : State) (n : ℕ) (out : Bool) (store : Store) : Type 0 where
-  pub heard : Stands state n out store (h ++ b ∷ [])
-  pub due : DueNow (h ++ b ∷ []) (verdict_if_any a store.octets)
+pub record Turn (h : Bits) (b : Bool) (v : Option Found) (state : State) (store : Store) : Type 0 where
+  pub heard : Stands state store (h ++ b ∷ [])
+  pub due : DueNow (h ++ b ∷ []) (verdict_if_any v store.octets)
 
-pub hears : {h : Bits} {b : Bool} {a : Option Answer} (r : Receiver) → Turn h b a r.state r.ones r.left_out r.store → Hears h b a r
-hears r t = record { heard = t.heard; due = t.due }
+pub hears : {h : Bits} {b x : Bool} {v : Option Found} (r : Receiver) → b ≡ x → Turn h x v r.state r.store → Hears h b v r
+hears {h} {v = v} r f t = subst (λ (y : Bool). Hears h y v r) (sym f) (record { heard = t.heard; due = t.due })
+
+-- the record in state s
+pub stood : (r : Receiver) (s : State) (h : Bits) → r.state ≡ s → HasHeard r h → Stands s r.store h
+stood r s h = subst (λ (t : State). Stands t r.store h)
+
+-- some history stands behind the fields still
+pub still_heard : {x : Bool} {v : Option Found} {state : State} {store : Store} (r : Receiver) (s : State) → r.state ≡ s
+    → ((h : Bits) → Stands s r.store h → Turn h x v state store) → ∥ ((h : Bits) × Stands state store h) ∥₁
+still_heard {x} r s e turn = ∥∥₁_map r.heard (λ p. (p.0 ++ x ∷ [], (turn p.0 (stood r s p.0 e p.1)).heard))
+
+-- so the ones are few
+pub few_hunting : (r : Receiver) (n : ℕ) → r.state ≡ Hunting n → n ≤ 6
+few_hunting r n e = ∥∥₁_elim r.heard le_prop (λ p. (stood r (Hunting n) p.0 e p.1).1)
+
+pub few_stretch : (r : Receiver) (n : ℕ) (out : Bool) → r.state ≡ Stretch n out → n ≤ 6
+few_stretch r n out e = ∥∥₁_elim r.heard le_prop (λ p. (stood r (Stretch n out) p.0 e p.1).few)
 
 -- nothing heard yet
-pub fresh : (n : ℕ) (out : Bool) (store : Store) → Stands Idle n out store []
-fresh n out store = matches_stands [] n out store Idle tt
+pub fresh : (store : Store) → Stands Idle store []
+fresh store = matches_stands [] store Idle tt
 
-pub still_idle : (n : ℕ) (out : Bool) (store : Store) → ∥ ((h : Bits) × Stands Idle n out store h) ∥₁
-still_idle n out store = ∣ ([], fresh n out store) ∣₁
+pub still_idle : (store : Store) → ∥ ((h : Bits) × Stands Idle store h) ∥₁
+still_idle store = ∣ ([], fresh store) ∣₁
 
 -- a zero behind a zero and six ones: a stretch begins
-pub begins : (h : Bits) (store : Store) → Holds store [] → Behind 6 h → Stands Stretch 0 false store (h ++ false ∷ [])
+pub begins : (h : Bits) (store : Store) → Holds store [] → Behind 6 h → Stands (Stretch 0 false) store (h ++ false ∷ [])
 begins h store holds (p, is) =
     let e : h ++ false ∷ [] ≡ p ++ flag = ap {B = Bits} (λ (l : Bits). l ++ false ∷ []) is ∙ append_assoc p (false ∷ ones 6) (false ∷ []) in
     let s : state_of (reverse (p ++ flag)) ≡ inside [] 6 = ap state_of (reverse-append p flag) ∙ flag_lands (reverse p) in
-    subst (Stands Stretch 0 false store) (sym e)
-    (matches_stands (p ++ flag) 0 false store Stretch (subst (Matches Stretch 0 false store) (sym s) (refl, holds, refl)))
+    subst (Stands (Stretch 0 false) store) (sym e) (matches_stands (p ++ flag) store (Stretch 0 false) (subst (Matches (Stretch 0 false) store) (sym s) (refl, holds, refl)))
 
 -- the state that the fields match
-is_lost : (n : ℕ) (out : Bool) (store : Store) (st : scanner.State) → Matches Idle n out store st → st ≡ lost
-is_lost n out store lost m = refl
-is_lost n out store (hunting k) m = absurd m
-is_lost n out store (inside raw k) m = absurd m
+is_lost : (store : Store) (st : scanner.State) → Matches Idle store st → st ≡ lost
+is_lost store lost m = refl
+is_lost store (hunting k) m = absurd m
+is_lost store (inside raw k) m = absurd m
 
-is_hunting : (n k : ℕ) (out : Bool) (store : Store) (st : scanner.State) → n + k ≡ 6 → Matches Hunting n out store st → st ≡ hunting k
-is_hunting n k out store lost s m = absurd m
-is_hunting n k out store (hunting j) s m = let e : j ≡ k = omega arith in ap hunting e
-is_hunting n k out store (inside raw j) s m = absurd m
+is_hunting : (n k : ℕ) (store : Store) (st : scanner.State) → n + k ≡ 6 → Matches (Hunting n) store st → st ≡ hunting k
+is_hunting n k store lost s m = absurd m
+is_hunting n k store (hunting j) s m = let e : j ≡ k = omega arith in ap hunting e
+is_hunting n k store (inside raw j) s m = absurd m
 
 pub record IsInside (k : ℕ) (out : Bool) (store : Store) (st : scanner.State) : Type 0 where
   pub raw : Bits
@@ -73,120 +90,101 @@ pub record IsInside (k : ℕ) (out : Bool) (store : Store) (st : scanner.State) 
   pub holds : Holds store (kept raw)
   pub out_is : out ≡ last_out raw
 
-pub is_inside : (n k : ℕ) (out : Bool) (store : Store) (st : scanner.State) → n + k ≡ 6 → Matches Stretch n out store st → IsInside k out store st
+pub is_inside : (n k : ℕ) (out : Bool) (store : Store) (st : scanner.State) → n + k ≡ 6 → Matches (Stretch n out) store st → IsInside k out store st
 is_inside n k out store lost s m = absurd m
 is_inside n k out store (hunting j) s m = absurd m
 is_inside n k out store (inside raw j) s m =
     let e : j ≡ k = let z = m.0 in omega arith in
     record { raw = raw; state = ap (inside raw) e; holds = m.1; out_is = m.2 }
 
--- in a stretch, behind six ones
-pub inside_six : (r : Receiver) (h : Bits) → HasHeard r h → r.state ≡ Stretch → r.ones ≡ 6 → Inside 6 r.left_out r.store h
-inside_six r h heard e n =
-    subst (λ (k : ℕ). Inside k r.left_out r.store h) n (subst (λ (s : State). Stands s r.ones r.left_out r.store h) e heard)
-
-module _ (r : Receiver) (b : Bool) (h : Bits) (heard : HasHeard r h) where
-  turn : (a : Option Answer) (state : State) (n : ℕ) (out : Bool) (store : Store) (st : scanner.State) (x : Bool) → state_of (reverse h) ≡ st → b ≡ x
-      → Matches state n out store (step st x) → emits st x ≡ emitted (verdict_if_any a store.octets) → Turn h b a state n out store
-  turn a state n out store st x s f m e =
-      let next : state_of (reverse (h ++ b ∷ [])) ≡ step st x = state_more h b ∙ ap (λ (y : Bool). step (state_of (reverse h)) y) f ∙ ap (λ (t : scanner.State). step t x) s in
-      let here : emits (state_of (reverse h)) b ≡ emits st x = ap {B = scanned.Option Verdict} (λ (y : Bool). emits (state_of (reverse h)) y) f ∙ ap {B = scanned.Option Verdict} (λ (t : scanner.State). emits t x) s in
+module _ (store : Store) (h : Bits) where
+  turn : (v : Option Found) (state : State) (then : Store) (st : scanner.State) (b : Bool) → state_of (reverse h) ≡ st → Matches state then (step st b)
+      → emits st b ≡ emitted (verdict_if_any v then.octets) → Turn h b v state then
+  turn v state then st b s m e =
+      let next : state_of (reverse (h ++ b ∷ [])) ≡ step st b = state_more h b ∙ ap (λ (t : scanner.State). step t b) s in
       record {
-        heard = matches_stands (h ++ b ∷ []) n out store state (subst (Matches state n out store) (sym next) m);
-        due = due_now h b (verdict_if_any a store.octets) (here ∙ e);
+        heard = matches_stands (h ++ b ∷ []) then state (subst (Matches state then) (sym next) m);
+        due = due_now h b (verdict_if_any v then.octets) (ap {B = scanned.Option Verdict} (λ (t : scanner.State). emits t b) s ∙ e);
       }
 
-  matched : (s : State) → r.state ≡ s → Matches s r.ones r.left_out r.store (state_of (reverse h))
-  matched s e = stands_matches h r.ones r.left_out r.store s (subst (λ (s : State). Stands s r.ones r.left_out r.store h) e heard)
+  lies : Stands Idle store h → state_of (reverse h) ≡ lost
+  lies was = is_lost store (state_of (reverse h)) (stands_matches h store Idle was)
 
-  pub idle_one : r.state ≡ Idle → b ≡ true → Turn h b None r.state r.ones r.left_out r.store
-  idle_one e f =
-      let q = is_lost r.ones r.left_out r.store (state_of (reverse h)) (matched Idle e) in
-      subst (λ (s : State). Turn h b None s r.ones r.left_out r.store) (sym e) (turn None Idle r.ones r.left_out r.store lost true q f tt refl)
+  pub idle_one : Stands Idle store h → Turn h true None Idle store
+  idle_one was = turn None Idle store lost true (lies was) tt refl
 
-  pub idle_zero : r.state ≡ Idle → b ≡ false → Turn h b None Hunting 0 r.left_out r.store
-  idle_zero e f =
-      let q = is_lost r.ones r.left_out r.store (state_of (reverse h)) (matched Idle e) in
-      turn None Hunting 0 r.left_out r.store lost false q f refl refl
+  pub idle_zero : Stands Idle store h → Turn h false None (Hunting 0) store
+  idle_zero was = turn None (Hunting 0) store lost false (lies was) refl refl
 
-  hunts : (k : ℕ) → r.state ≡ Hunting → r.ones + k ≡ 6 → state_of (reverse h) ≡ hunting k
-  hunts k e s = is_hunting r.ones k r.left_out r.store (state_of (reverse h)) s (matched Hunting e)
+  hunts : (n k : ℕ) → n + k ≡ 6 → Stands (Hunting n) store h → state_of (reverse h) ≡ hunting k
+  hunts n k s was = is_hunting n k store (state_of (reverse h)) s (stands_matches h store (Hunting n) was)
 
-  pub hunting_break : r.state ≡ Hunting → b ≡ true → r.ones ≡ 6 → Turn h b None Idle r.ones r.left_out r.store
-  hunting_break e f n = turn None Idle r.ones r.left_out r.store (hunting 0) true (hunts 0 e (omega arith)) f tt refl
+  pub hunting_break : Stands (Hunting 6) store h → Turn h true None Idle store
+  hunting_break was = turn None Idle store (hunting 0) true (hunts 6 0 (omega arith) was) tt refl
 
-  pub hunting_one : r.state ≡ Hunting → b ≡ true → r.ones < 6 → Turn h b None r.state (r.ones + 1) r.left_out r.store
-  hunting_one e f n =
-      subst (λ (s : State). Turn h b None s (r.ones + 1) r.left_out r.store) (sym e)
-      (turn None Hunting (r.ones + 1) r.left_out r.store (hunting (suc (5 - r.ones))) true (hunts (suc (5 - r.ones)) e (omega arith)) f (omega arith) refl)
+  pub hunting_one : (n : ℕ) → n ≢ 6 → Stands (Hunting n) store h → Turn h true None (Hunting (n + 1)) store
+  hunting_one n ne was =
+      let few = was.1 in
+      turn None (Hunting (n + 1)) store (hunting (suc (5 - n))) true (hunts n (suc (5 - n)) (omega arith) was) (omega arith) refl
 
-  pub hunting_zero : r.state ≡ Hunting → b ≡ false → r.ones < 6 → Turn h b None r.state 0 r.left_out r.store
-  hunting_zero e f n =
-      subst (λ (s : State). Turn h b None s 0 r.left_out r.store) (sym e)
-      (turn None Hunting 0 r.left_out r.store (hunting (suc (5 - r.ones))) false (hunts (suc (5 - r.ones)) e (omega arith)) f refl refl)
+  pub hunting_zero : (n : ℕ) → n ≢ 6 → Stands (Hunting n) store h → Turn h false None (Hunting 0) store
+  hunting_zero n ne was =
+      let few = was.1 in
+      turn None (Hunting 0) store (hunting (suc (5 - n))) false (hunts n (suc (5 - n)) (omega arith) was) refl refl
 
   -- a flag is complete that closes nothing
-  pub hunting_flag : r.state ≡ Hunting → b ≡ false → r.ones ≡ 6 → (Behind 6 h) × DueNow (h ++ b ∷ []) None
-  hunting_flag e f n =
-      let was = subst (λ (s : State). Stands s r.ones r.left_out r.store h) e heard in (
-        subst (λ (k : ℕ). Behind k h) n was.2,
-        due_now h b None (ap {B = scanned.Option Verdict} (λ (t : scanner.State). emits t b) (hunts 0 e (omega arith))),
-      )
+  pub hunting_flag : Stands (Hunting 6) store h → DueNow (h ++ false ∷ []) None
+  hunting_flag was = due_now h false None (ap {B = scanned.Option Verdict} (λ (t : scanner.State). emits t false) (hunts 6 0 (omega arith) was))
 
-  within : (k : ℕ) → r.state ≡ Stretch → r.ones + k ≡ 6 → IsInside k r.left_out r.store (state_of (reverse h))
-  within k e s = is_inside r.ones k r.left_out r.store (state_of (reverse h)) s (matched Stretch e)
+  module _ (out : Bool) where
+    within : (n k : ℕ) → n + k ≡ 6 → Stands (Stretch n out) store h → IsInside k out store (state_of (reverse h))
+    within n k s was = is_inside n k out store (state_of (reverse h)) s (stands_matches h store (Stretch n out) was)
 
-  -- a break's own ones, and nothing before them
-  pub stretch_break_empty : r.state ≡ Stretch → b ≡ true → r.ones ≡ 6 → r.store.count < 6 → Turn h b None Idle r.ones r.left_out r.store
-  stretch_break_empty e f n few =
-      let i = within 0 e (omega arith) in
-      let c = i.holds.counted in
-      turn None Idle r.ones r.left_out r.store (inside i.raw 0) true i.state f tt (breaks_nothing i.raw (six i.raw (in_stretch (reverse h) i.raw 0 i.state)) (omega arith))
+    -- a break's own ones, and nothing before them
+    pub stretch_break_empty : store.count < 6 → Stands (Stretch 6 out) store h → Turn h true None Idle store
+    stretch_break_empty few was =
+        let i = within 6 0 (omega arith) was in
+        let c = i.holds.counted in
+        turn None Idle store (inside i.raw 0) true i.state tt (breaks_nothing i.raw (six i.raw (in_stretch (reverse h) i.raw 0 i.state)) (omega arith))
 
-  pub stretch_break : r.state ≡ Stretch → b ≡ true → r.ones ≡ 6 → 6 ≤ r.store.count → Turn h b (Some Aborted) Idle r.ones r.left_out r.store
-  stretch_break e f n many =
-      let i = within 0 e (omega arith) in
-      let c = i.holds.counted in
-      turn (Some Aborted) Idle r.ones r.left_out r.store (inside i.raw 0) true i.state f tt (breaks_off i.raw (six i.raw (in_stretch (reverse h) i.raw 0 i.state)) (omega arith))
+    pub stretch_break : 6 ≤ store.count → Stands (Stretch 6 out) store h → Turn h true (Some Aborted) Idle store
+    stretch_break many was =
+        let i = within 6 0 (omega arith) was in
+        let c = i.holds.counted in
+        turn (Some Aborted) Idle store (inside i.raw 0) true i.state tt (breaks_off i.raw (six i.raw (in_stretch (reverse h) i.raw 0 i.state)) (omega arith))
 
-  -- the sixth one is left out
-  pub stretch_six : r.state ≡ Stretch → b ≡ true → r.ones ≡ 5 → Turn h b None r.state 6 r.left_out r.store
-  stretch_six e f n =
-      let i = within 1 e (omega arith) in
-      let k = kept_out i.raw (in_stretch (reverse h) i.raw 1 i.state) true in
-      subst (λ (s : State). Turn h b None s 6 r.left_out r.store) (sym e)
-      (turn None Stretch 6 r.left_out r.store (inside i.raw 1) true i.state f (refl, subst (Holds r.store) (sym k) i.holds, i.out_is) refl)
+    -- the sixth one is left out
+    pub stretch_six : Stands (Stretch 5 out) store h → Turn h true None (Stretch 6 out) store
+    stretch_six was =
+        let i = within 5 1 (omega arith) was in
+        let k = kept_out i.raw (in_stretch (reverse h) i.raw 1 i.state) true in
+        turn None (Stretch 6 out) store (inside i.raw 1) true i.state (refl, subst (Holds store) (sym k) i.holds, i.out_is) refl
 
-  pub stretch_left-out : r.state ≡ Stretch → b ≡ false → r.ones ≡ 5 → Turn h b None r.state 0 true r.store
-  stretch_left-out e f n =
-      let i = within 1 e (omega arith) in
-      let j = in_stretch (reverse h) i.raw 1 i.state in
-      let k = kept_out i.raw j false in
-      subst (λ (s : State). Turn h b None s 0 true r.store) (sym e)
-      (turn None Stretch 0 true r.store (inside i.raw 1) false i.state f (refl, subst (Holds r.store) (sym k) i.holds, sym (out_zero i.raw 0 j)) refl)
+    pub stretch_left-out : Stands (Stretch 5 out) store h → Turn h false None (Stretch 0 true) store
+    stretch_left-out was =
+        let i = within 5 1 (omega arith) was in
+        let j = in_stretch (reverse h) i.raw 1 i.state in
+        let k = kept_out i.raw j false in
+        turn None (Stretch 0 true) store (inside i.raw 1) false i.state (refl, subst (Holds store) (sym k) i.holds, sym (out_zero i.raw 0 j)) refl
 
-  -- a bit that is kept
-  module _ (store : Store) (n : r.ones < 5) (pushed : (l : Bits) → Holds r.store l → Holds store (l ++ b ∷ [])) where
-    held : (e : r.state ≡ Stretch) (x : Bool) → b ≡ x → Holds store (kept (x ∷ (within (suc (suc (4 - r.ones))) e (omega arith)).raw))
-    held e x f =
-        let i = within (suc (suc (4 - r.ones))) e (omega arith) in
-        let k = kept_in i.raw (4 - r.ones) (in_stretch (reverse h) i.raw (suc (suc (4 - r.ones))) i.state) x in
-        subst (Holds store) (ap {B = Bits} (λ (y : Bool). kept i.raw ++ y ∷ []) f ∙ sym k) (pushed (kept i.raw) i.holds)
+    -- a bit that is kept
+    module _ (then : Store) (n : ℕ) (five : n ≢ 5) (six : n ≢ 6) (b : Bool) (pushed : (l : Bits) → Holds store l → Holds then (l ++ b ∷ [])) (was : Stands (Stretch n out) store h) where
+      at : IsInside (suc (suc (4 - n))) out store (state_of (reverse h))
+      at = let few = was.few in within n (suc (suc (4 - n))) (omega arith) was
 
-    pub stretch-one : r.state ≡ Stretch → b ≡ true → Turn h b None r.state (r.ones + 1) r.left_out store
-    stretch-one e f =
-        let i = within (suc (suc (4 - r.ones))) e (omega arith) in
-        subst (λ (s : State). Turn h b None s (r.ones + 1) r.left_out store) (sym e)
-        (turn None Stretch (r.ones + 1) r.left_out store (inside i.raw (suc (suc (4 - r.ones)))) true i.state f (omega arith, held e true f, i.out_is) refl)
+      held : Holds then (kept (b ∷ at.raw))
+      held = subst (Holds then) (sym (kept_in at.raw (4 - n) (in_stretch (reverse h) at.raw (suc (suc (4 - n))) at.state) b)) (pushed (kept at.raw) at.holds)
 
-    pub stretch-zero : r.state ≡ Stretch → b ≡ false → Turn h b None r.state 0 false store
-    stretch-zero e f =
-        let i = within (suc (suc (4 - r.ones))) e (omega arith) in
-        let j = in_stretch (reverse h) i.raw (suc (suc (4 - r.ones))) i.state in
-        subst (λ (s : State). Turn h b None s 0 false store) (sym e)
-        (turn None Stretch 0 false store (inside i.raw (suc (suc (4 - r.ones)))) false i.state f (refl, held e false f, sym (out_zero i.raw (suc (4 - r.ones)) j)) refl)
+    pub stretch-one : (then : Store) (n : ℕ) → n ≢ 5 → n ≢ 6 → ((l : Bits) → Holds store l → Holds then (l ++ true ∷ [])) → Stands (Stretch n out) store h
+        → Turn h true None (Stretch (n + 1) out) then
+    stretch-one then n five six pushed was =
+        let few = was.few in
+        let i = at then n five six true pushed was in
+        turn None (Stretch (n + 1) out) then (inside i.raw (suc (suc (4 - n)))) true i.state (omega arith, held then n five six true pushed was, i.out_is) refl
 
--- some history stands behind the fields still
-pub still_heard : {a : Option Answer} {state : State} {n : ℕ} {out : Bool} {store : Store} (r : Receiver) (b : Bool)
-    → ((h : Bits) → HasHeard r h → Turn h b a state n out store) → ∥ ((h : Bits) × Stands state n out store h) ∥₁
-still_heard r b turn = mathlib.Core.Logic.∥∥₁_map r.heard (λ p. (p.0 ++ b ∷ [], (turn p.0 p.1).heard))
+    pub stretch-zero : (then : Store) (n : ℕ) → n ≢ 5 → n ≢ 6 → ((l : Bits) → Holds store l → Holds then (l ++ false ∷ [])) → Stands (Stretch n out) store h
+        → Turn h false None (Stretch 0 false) then
+    stretch-zero then n five six pushed was =
+        let i = at then n five six false pushed was in
+        let j = in_stretch (reverse h) i.raw (suc (suc (4 - n))) i.state in
+        turn None (Stretch 0 false) then (inside i.raw (suc (suc (4 - n)))) false i.state (refl, held then n five six false pushed was, sym (out_zero i.raw (suc (4 - n)) j)) refl

@@ -1,6 +1,6 @@
 -- The verdict on a closed stretch, from what the store holds.
 use Rattle.std.proofs.Common.{◌≡◌, ℕ, zero, suc, ◌+◌, ◌-◌, ◌*◌, ◌/◌, ◌%◌, ◌<◌, ◌≤◌, min, List, [], ◌∷◌, ◌++◌, length, get_or, take, drop, sym, refl, ap, ◌∙◌, arith}
-use Rattle.std.proofs.lemmas.List.{take-append-le, take-take, length-take-le, drop_more, drop-take}
+use Rattle.std.proofs.lemmas.List.{take-take, length-take-le, drop-take}
 use Rattle.bits.specs.Octets.{low, sent}
 use Rattle.bits.proofs.Sent.{length-sent}
 use Rattle.fcs.specs.Sequence.{sequence, trailer}
@@ -25,10 +25,6 @@ octets_front : (os : List ℕ) → ((i : ℕ) → get_or os i 0 < 256) → (n : 
 octets_front os h zero = tt
 octets_front [] h (suc n) = tt
 octets_front (o ∷ os) h (suc n) = (h 0, octets_front os (λ i. h (suc i)) n)
-
--- two octets more
-last_two : (os : List ℕ) (n : ℕ) → n + 2 ≤ length os → drop n (take (n + 2) os) ≡ get_or os n 0 ∷ get_or os (n + 1) 0 ∷ []
-last_two os n h = drop-take n 2 os ∙ ap {B = List ℕ} (take 2) (drop_more os n 0 (omega arith) ∙ ap {B = List ℕ} (λ (l : List ℕ). get_or os n 0 ∷ l) (drop_more os (n + 1) 0 (omega arith)))
 
 -- the store holds `held`, more than the closing flag's six bits, and what removal left of the stretch x is the rest
 module _ (s : Store) (x held : Bits) (whole : Applies MissingZero x → ⊥) (was : Holds s held) (is : removed x ≡ take (length held - 6) held) (many : 6 < s.count) where
@@ -65,14 +61,11 @@ module _ (s : Store) (x held : Bits) (whole : Applies MissingZero x → ⊥) (wa
         all-sent =
             let c = was.counted in
             let n : length held - 6 ≡ 8 * (end + 2) = omega arith in
-            let k : ℕ = min 16504 s.count / 8 in
-            let long : length (take k s.octets) ≡ k = length-take-le k s.octets (omega arith) in
-            let bits = length-sent (take k s.octets) in
+            let long = length-sent s.octets in
             is ∙ ap {B = Bits} (λ (m : ℕ). take m held) n
             ∙ sym (take-take (8 * (end + 2)) 16504 held (omega arith)) ∙ sym (ap {B = Bits} (take (8 * (end + 2))) was.packed)
-            ∙ take-append-le (8 * (end + 2)) (sent (take k s.octets)) (low (min 16504 s.count % 8) s.octet) (omega arith)
-            ∙ take-sent (end + 2) (take k s.octets) (omega arith)
-            ∙ ap {B = Bits} sent (take-take (end + 2) k s.octets (omega arith))
+            ∙ take-take (8 * (end + 2)) (min 16504 s.count) (sent s.octets) (omega arith)
+            ∙ take-sent (end + 2) s.octets (omega arith)
 
         in-front : length all - 2 ≡ end
         in-front = let l = all-long in omega arith
@@ -80,8 +73,10 @@ module _ (s : Store) (x held : Bits) (whole : Applies MissingZero x → ⊥) (wa
         front_is : front all ≡ take end s.octets
         front_is = ap {B = List ℕ} (λ (k : ℕ). take k all) in-front ∙ take-take end (end + 2) s.octets (omega arith)
 
-        last-is : drop (length all - 2) all ≡ get_or s.octets end 0 ∷ get_or s.octets (end + 1) 0 ∷ []
-        last-is = ap {B = List ℕ} (λ (k : ℕ). drop k all) in-front ∙ last_two s.octets end (omega arith)
+        last-is : drop (length all - 2) all ≡ take (end + 2 - end) (drop end s.octets)
+        last-is =
+            let two_more : 2 ≡ end + 2 - end = omega arith in
+            ap {B = List ℕ} (λ (k : ℕ). drop k all) in-front ∙ drop-take end 2 s.octets ∙ ap {B = List ℕ} (λ (k : ℕ). take k (drop end s.octets)) two_more
 
         trailer-is : trailer (front all) ≡ two
         unfolding trailer
@@ -92,17 +87,14 @@ module _ (s : Store) (x held : Bits) (whole : Applies MissingZero x → ⊥) (wa
             let high : q / 256 ≡ q / 256 % 256 = omega arith in
             ap {B = List ℕ} trailer front_is ∙ ap {B = List ℕ} (λ (n : ℕ). n % 256 ∷ n / 256 ∷ []) (sym e) ∙ ap {B = List ℕ} (λ (n : ℕ). q % 256 ∷ n ∷ []) high ∙ sym two-are
 
-        pub held-right : get_or s.octets end 0 ≡ get_or two 0 0 → get_or s.octets (end + 1) 0 ≡ get_or two 1 0 → Judged x (frame (take end s.octets))
-        held-right a b =
+        pub held-right : take (end + 2 - end) (drop end s.octets) ≡ two → Judged x (frame (take end s.octets))
+        held-right e =
             let l = all-long in
-            let low-is : get_or two 0 0 ≡ q % 256 = ap (λ (l : List ℕ). get_or l 0 0) two-are in
-            let high_is : get_or two 1 0 ≡ q / 256 % 256 = ap (λ (l : List ℕ). get_or l 1 0) two-are in
-            let same : drop (length all - 2) all ≡ trailer (front all) = let m = last-is in let t = trailer-is in cc in
-            is_judged x (frame (take end s.octets)) (judged-right x whole all (octets_front s.octets small (end + 2)) all-sent (omega arith) (omega arith) same ∙ ap {B = Verdict} frame front_is)
+            is_judged x (frame (take end s.octets))
+            (judged-right x whole all (octets_front s.octets small (end + 2)) all-sent (omega arith) (omega arith) (last-is ∙ e ∙ sym trailer-is) ∙ ap {B = Verdict} frame front_is)
 
-        pub held-wrong : (get_or s.octets end 0 ≡ get_or two 0 0 → get_or s.octets (end + 1) 0 ≡ get_or two 1 0 → ⊥) → Judged x (refused WrongSequence)
+        pub held-wrong : (take (end + 2 - end) (drop end s.octets) ≡ two → ⊥) → Judged x (refused WrongSequence)
         held-wrong ne =
             let l = all-long in
-            is_judged x (refused WrongSequence) (judged-wrong x whole all (octets_front s.octets small (end + 2)) all-sent (omega arith) (omega arith)
-            (λ e. let f : get_or s.octets end 0 ∷ get_or s.octets (end + 1) 0 ∷ [] ≡ two = sym last-is ∙ e ∙ trailer-is in
-            ne (ap (λ (l : List ℕ). get_or l 0 0) f) (ap (λ (l : List ℕ). get_or l 1 0) f)))
+            is_judged x (refused WrongSequence)
+            (judged-wrong x whole all (octets_front s.octets small (end + 2)) all-sent (omega arith) (omega arith) (λ e. ne (sym last-is ∙ e ∙ trailer-is)))

@@ -1,43 +1,35 @@
 -- What a receiver has heard, and what one bit more does: the inner contracts of listening.
-use Rattle.std.specs.Prelude.{ℕ, ◌≤◌, Bool, List, [], ◌∷◌, ◌++◌, length, Some, None, Option}
-use Rattle.cutting.specs.Cutting.{Bits, Verdict, Judged, Due}
-use Rattle.receiver.specs.Answers.{verdict_of}
+use Rattle.std.specs.Prelude.{ℕ, Bool, List, [], ◌∷◌, ◌++◌, length, take, Some, None, Option}
+use Rattle.cutting.specs.Cutting.{Bits, Verdict, aborted, refused, frame, Due}
 use Rattle.receiver.specs.Stands.{Stands}
-use Rattle.receiver.specs.declared.answer.Answer.{Answer}
-use Rattle.receiver.specs.declared.answer.Answer.TheVariants.{Aborted, Refused, Frame, Paused, Dry}
+use Rattle.receiver.specs.declared.verdict.Verdict.{Verdict as Found}
+use Rattle.receiver.specs.declared.verdict.Verdict.TheVariants as found
 use Rattle.receiver.specs.declared.record.Receiver.{Receiver}
 
 -- r has heard the bits h since it was new, or since the last carrier loss
 abbrev pub HasHeard : Receiver → Bits → Type 0
-HasHeard r h = Stands r.state r.ones r.left_out r.store h
-
--- an answer that is a verdict; a frame has 9 to 2,061 octets, so it has room in every buffer that listening accepts
-abbrev pub IsVerdict : Answer → Type 0
-IsVerdict Aborted = Unit {0}
-IsVerdict (Refused f) = Unit {0}
-IsVerdict (Frame n) = (9 ≤ n) × (n ≤ 2061)
-IsVerdict Paused = ⊥
-IsVerdict Dry = ⊥
-
-abbrev pub VerdictIfAny : Option Answer → Type 0
-VerdictIfAny None = Unit {0}
-VerdictIfAny (Some a) = IsVerdict a
-
--- the verdict on the stretch x
-abbrev pub Judges : Bits → Option Verdict → Type 0
-Judges x None = ⊥
-Judges x (Some v) = Judged x v
+HasHeard r h = Stands r.state r.store h
 
 -- the verdict due at the end of h, or that there is none
 abbrev pub DueNow : Bits → Option Verdict → Type 0
 DueNow h None = (v : Verdict) → Due h (length h) v → ⊥
 DueNow h (Some v) = Due h (length h) v
 
-abbrev pub verdict_if_any : Option Answer → List ℕ → Option Verdict
-verdict_if_any None octets = None
-verdict_if_any (Some a) octets = verdict_of a octets
+-- the verdict that was found, given the octets in the store
+abbrev pub meant : Found → List ℕ → Verdict
+meant found.Aborted octets = aborted
+meant (found.Refused f) octets = refused f
+meant (found.Frame l) octets = frame (take l.octets octets)
 
--- behind the history h came the bit b: the record stands for both, and what was answered is due there, a frame's octets in the store
-pub record Hears (h : Bits) (b : Bool) (a : Option Answer) (r : Receiver) : Type 0 where
+abbrev pub verdict_if_any : Option Found → List ℕ → Option Verdict
+verdict_if_any None octets = None
+verdict_if_any (Some v) octets = Some (meant v octets)
+
+-- behind the history h came the bit b: the record stands for both, and the verdict that was found is due there, or none is
+pub record Hears (h : Bits) (b : Bool) (v : Option Found) (r : Receiver) : Type 0 where
   pub heard : HasHeard r (h ++ b ∷ [])
-  pub due : DueNow (h ++ b ∷ []) (verdict_if_any a r.store.octets)
+  pub due : DueNow (h ++ b ∷ []) (verdict_if_any v r.store.octets)
+
+-- hearing the bit b took the record from old to new, and told v: right for every history that the old record stands for
+abbrev pub Tells : Receiver → Bool → Option Found → Receiver → Type 0
+Tells old b v new = (h : Bits) → HasHeard old h → Hears h b v new

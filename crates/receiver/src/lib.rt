@@ -4,6 +4,7 @@
 mod answer;
 mod record;
 mod store;
+mod verdict;
 
 pub use answer::{Answer, Heard, ListenError};
 pub use record::Receiver;

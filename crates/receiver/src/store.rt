@@ -1,5 +1,5 @@
 // The store for the stretch in hand: what removal left of it, packed into octets.
-ghost use Rattle.std.specs.Prelude.{◌%◌, ◌^◌, ◌<◌, ◌≤◌};
+ghost use Rattle.std.specs.Prelude.{◌≤◌};
 
 pub mod packing;
 
@@ -10,8 +10,6 @@ pub const MOST_BITS: usize = 16_504;
 #[derive(Drop)]
 pub struct Store {
     count: usize,
-    octet: u8,
     octets: [u8; 2063],
     ghost bound: { count ≤ 16511 },
-    ghost partial: { octet < 2 ^ (count % 8) },
 }

@@ -1,6 +1,5 @@
-pub mod Entries
+pub mod Joins
 pub mod Listings
 pub mod Parts
 pub mod Places
-pub mod Shapes
 pub mod Tunings

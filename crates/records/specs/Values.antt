@@ -67,12 +67,16 @@ pub record IsFrequency (f : Frequency) : Type 0 where
 abbrev pub frequency_octets : Frequency → List ℕ
 frequency_octets f = tuning_octets f.tuning ++ station_octets f.station
 
+-- octets that are a list of values laid out one after another
+abbrev pub Joined : {X : Type 0} → (X → Type 0) → (X → List ℕ) → List ℕ → Type 0
+Joined {X} P layout v = (xs : List X) × (AllByRecursion P xs × (flat_map layout xs ≡ v))
+
 -- a value that follows a layout
 abbrev pub LaidOut : Shape → List ℕ → Type 0
 LaidOut identified v = v ≡ 0x56 ∷ []
 LaidOut tuned v = (t : Tuning) × (IsTuning t × (tuning_octets t ≡ v))
-LaidOut listed v = (stations : List Address) × (AllByRecursion IsAddress stations × (flat_map station_octets stations ≡ v))
-LaidOut supported v = (frequencies : List Frequency) × (AllByRecursion IsFrequency frequencies × (flat_map frequency_octets frequencies ≡ v))
+LaidOut listed v = Joined IsAddress station_octets v
+LaidOut supported v = Joined IsFrequency frequency_octets v
 LaidOut aircraft v = (l : Location) × ((h : ℕ) × (IsLocation l × (h < 256) × (location_octets l ++ (h ∷ []) ≡ v)))
 LaidOut ground v = (l : Location) × (IsLocation l × (location_octets l ≡ v))
 LaidOut unlaid v = Unit {0}
@@ -84,21 +88,14 @@ TuningRead os t = IsTuning t × (tuning_octets t ≡ os)
 abbrev pub TwelveRead : ℕ → ℤ → Type 0
 TwelveRead n z = Within 2048 z × (twelve z ≡ n)
 
+-- of values that fulfil P, the one whose layout the octets are, or none
+abbrev pub LayoutRead : {X : Type 0} → (X → Type 0) → (X → List ℕ) → List ℕ → Option X → Type 0
+LayoutRead P layout os (Some x) = P x × (layout x ≡ os)
+LayoutRead {X} P layout os None = (x : X) → P x → layout x ≢ os
+
 abbrev pub LocationRead : List ℕ → Option Location → Type 0
-LocationRead os (Some l) = IsLocation l × (location_octets l ≡ os)
-LocationRead os None = (l : Location) → IsLocation l → location_octets l ≢ os
+LocationRead = LayoutRead IsLocation location_octets
 
-abbrev pub StationRead : List ℕ → Option Address → Type 0
-StationRead os (Some a) = IsAddress a × (station_octets a ≡ os)
-StationRead os None = (a : Address) → IsAddress a → station_octets a ≢ os
-
-abbrev pub FrequencyRead : List ℕ → Option Frequency → Type 0
-FrequencyRead os (Some f) = IsFrequency f × (frequency_octets f ≡ os)
-FrequencyRead os None = (f : Frequency) → IsFrequency f → frequency_octets f ≢ os
-
--- the entry at an index of a list
-abbrev pub StationAt : List ℕ → ℕ → Option Address → Type 0
-StationAt os i r = StationRead (take 4 (drop (4 * i) os)) r
-
-abbrev pub FrequencyAt : List ℕ → ℕ → Option Frequency → Type 0
-FrequencyAt os i r = FrequencyRead (take 6 (drop (6 * i) os)) r
+-- the entry at an index of a list, whose entries are w octets each
+abbrev pub EntryAt : {X : Type 0} → (X → Type 0) → (X → List ℕ) → ℕ → List ℕ → ℕ → Option X → Type 0
+EntryAt P layout w os i r = LayoutRead P layout (take w (drop (w * i) os)) r

@@ -3,9 +3,11 @@
 
 ghost use Rattle.records.specs.Laws.{TuningIsOne, LocationIsOne, StationsAreListed, FrequenciesAreListed};
 
+pub use entries::{Entries, Entry};
 pub use record::{Record, read_value};
 pub use values::{Frequencies, Frequency, Location, Stations, Tuning};
 
+mod entries;
 mod record;
 mod values;
 

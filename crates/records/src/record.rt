@@ -1,5 +1,5 @@
 // Parameter values as typed records.
-ghost use Rattle.records.specs.Values.{shape, identified, tuned, listed, supported, aircraft, ground};
+ghost use Rattle.records.specs.Values.{shape, identified, tuned, aircraft, ground};
 ghost use Rattle.records.specs.Records.{ValueRead};
 
 use crate::values::{Frequencies, Location, Stations, Tuning};
@@ -7,7 +7,7 @@ use register::Group;
 
 // What a value says, by its parameter: set identification (private 00h), tuning (40h), stations (41h, 82h), frequencies with their
 // stations (C0h), an aircraft's place with its altitude in thousands of feet (84h), a ground station's place (C8h), or octets without a layout.
-#[derive(Clone, Copy)]
+#[derive(Clone, Copy, PartialEq, Eq, Debug)]
 pub enum Record<'a> {
     SetIdentification,
     Tuned { tuning: Tuning },
@@ -19,6 +19,7 @@ pub enum Record<'a> {
 }
 
 // The record of a value, or none where the value is against its layout.
+#[tactic(auto, unfolding(crate::specs::Values::shape))]
 pub fn read_value<'a>(group: Group, identifier: u8, value: &'a [u8]) -> Option<Record<'a>>
     ensures { ValueRead (shape group identifier) value.now result }
 {
@@ -27,8 +28,8 @@ pub fn read_value<'a>(group: Group, identifier: u8, value: &'a [u8]) -> Option<R
         Group::Private => match identifier {
             0x00 => set_identification(value),
             0x40 => tuned(value),
-            0x41 | 0x82 => listed(value),
-            0xC0 => supported(value),
+            0x41 | 0x82 => Stations::read(value).map(|stations| Record::Listed { stations }),
+            0xC0 => Frequencies::read(value).map(|frequencies| Record::Supported { frequencies }),
             0x84 => aircraft(value),
             0xC8 => ground(value),
             _ => Some(Record::Unlaid { octets: value }),
@@ -48,69 +49,31 @@ fn set_identification<'a>(value: &'a [u8]) -> Option<Record<'a>>
 fn tuned<'a>(value: &'a [u8]) -> Option<Record<'a>>
     ensures { ValueRead tuned value.now result }
 {
-    match value {
-        [high, low] => Some(Record::Tuned {
-            tuning: Tuning::decode(*high, *low),
-        }),
-        _ => None,
-    }
-}
-
-fn listed<'a>(value: &'a [u8]) -> Option<Record<'a>>
-    ensures { ValueRead listed value.now result }
-{
-    let stations = Stations { octets: value };
-    if value.len() % 4 != 0 {
+    let [high, low] = value else {
         return None;
-    }
-    for index in 0..stations.count() {
-        match stations.entry(index) {
-            None => return None,
-            Some(_) => {}
-        }
-    }
-    Some(Record::Listed { stations })
-}
-
-fn supported<'a>(value: &'a [u8]) -> Option<Record<'a>>
-    ensures { ValueRead supported value.now result }
-{
-    let frequencies = Frequencies { octets: value };
-    if value.len() % 6 != 0 {
-        return None;
-    }
-    for index in 0..frequencies.count() {
-        match frequencies.entry(index) {
-            None => return None,
-            Some(_) => {}
-        }
-    }
-    Some(Record::Supported { frequencies })
+    };
+    let tuning = Tuning::decode(*high, *low);
+    Some(Record::Tuned { tuning })
 }
 
 fn aircraft<'a>(value: &'a [u8]) -> Option<Record<'a>>
     ensures { ValueRead aircraft value.now result }
 {
-    match value {
-        [first, second, third, altitude] => match Location::decode(*first, *second, *third) {
-            None => None,
-            Some(location) => Some(Record::Aircraft {
-                location,
-                altitude: *altitude,
-            }),
-        },
-        _ => None,
-    }
+    let [first, second, third, altitude] = value else {
+        return None;
+    };
+    Some(Record::Aircraft {
+        location: Location::decode(*first, *second, *third)?,
+        altitude: *altitude,
+    })
 }
 
 fn ground<'a>(value: &'a [u8]) -> Option<Record<'a>>
     ensures { ValueRead ground value.now result }
 {
-    match value {
-        [first, second, third] => match Location::decode(*first, *second, *third) {
-            None => None,
-            Some(location) => Some(Record::Ground { location }),
-        },
-        _ => None,
-    }
+    let [first, second, third] = value else {
+        return None;
+    };
+    let location = Location::decode(*first, *second, *third)?;
+    Some(Record::Ground { location })
 }

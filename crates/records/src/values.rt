@@ -1,41 +1,36 @@
 // The values that have a layout.
-ghost use Rattle.std.specs.Prelude.{◌≡◌, ◌+◌, ◌*◌, ◌/◌, ◌<◌, ◌≤◌, [], ◌∷◌, length, take, drop};
-ghost use Rattle.records.specs.Values.{TuningRead, LocationRead, StationRead, StationAt, FrequencyAt, TwelveRead};
+ghost use Rattle.std.specs.Prelude.{◌≡◌, ◌+◌, ◌*◌, ◌<◌, [], ◌∷◌, refl};
+ghost use Rattle.std.proofs.Common.{rules};
+ghost use Rattle.frame.specs.Addresses.{IsAddress};
+ghost use Rattle.records.specs.Values.{TuningRead, LocationRead, IsFrequency, station_octets, frequency_octets, TwelveRead};
 
-use frame::Address;
+use crate::entries::{Entries, Entry};
+use frame::{Address, Addressed};
 
 // A modulation and a frequency in steps of 10 kHz above 100,000 kHz.
-#[derive(Clone, Copy)]
+#[derive(Clone, Copy, PartialEq, Eq, Debug)]
 pub struct Tuning {
     pub modulation: u8,
     pub steps: u16,
 }
 
 // A place in tenths of a degree, north and east positive.
-#[derive(Clone, Copy)]
+#[derive(Clone, Copy, PartialEq, Eq, Debug)]
 pub struct Location {
     pub latitude: i16,
     pub longitude: i16,
 }
 
 // A ground station and the tuning to reach it.
-#[derive(Clone, Copy)]
+#[derive(Clone, Copy, PartialEq, Eq, Debug)]
 pub struct Frequency {
     pub tuning: Tuning,
     pub station: Address,
 }
 
-// A list of addresses, each decoded when it is asked for.
-#[derive(Clone, Copy)]
-pub struct Stations<'a> {
-    pub octets: &'a [u8],
-}
+pub type Stations<'a> = Entries<'a, Address>;
 
-// A list of frequencies, each decoded when it is asked for.
-#[derive(Clone, Copy)]
-pub struct Frequencies<'a> {
-    pub octets: &'a [u8],
-}
+pub type Frequencies<'a> = Entries<'a, Frequency>;
 
 impl Tuning {
     pub fn kilohertz(self) -> u32
@@ -49,7 +44,7 @@ impl Tuning {
     {
         Tuning {
             modulation: high >> 4,
-            steps: (high & 0x0F) as u16 * 256 + low as u16,
+            steps: u16::from_be_bytes([high, low]) & 0x0FFF,
         }
     }
 }
@@ -59,9 +54,9 @@ impl Location {
     pub(crate) fn decode(first: u8, second: u8, third: u8) -> Option<Location>
         ensures { LocationRead (first ∷ second ∷ third ∷ []) result }
     {
-        let latitude = signed(first as u16 * 16 + (second >> 4) as u16);
-        let longitude = signed((second & 0x0F) as u16 * 256 + third as u16);
-        if latitude < -900 || latitude > 900 || longitude < -1800 || longitude > 1800 {
+        let latitude = signed(u16::from_be_bytes([first, second]) >> 4);
+        let longitude = signed(u16::from_be_bytes([second, third]) & 0x0FFF);
+        if !(-900..=900).contains(&latitude) || !(-1800..=1800).contains(&longitude) {
             return None;
         }
         Some(Location {
@@ -71,48 +66,51 @@ impl Location {
     }
 }
 
-impl Stations<'_> {
-    pub fn count(&self) -> usize
-        ensures { result ≡ length self.now.octets.now / 4 }
-    {
-        let octets = self.octets.len();
-        octets / 4
-    }
+// As an entry, an address is one of status 0.
+impl Entry for Address {
+    ghost Is = { IsAddress };
 
-    // The entry at an index from 0.
-    pub fn entry(&self, index: usize) -> Option<Address>
-        ensures { StationAt self.now.octets.now index result }
-    {
-        if index >= self.octets.len() / 4 {
+    ghost layout = { station_octets };
+
+    ghost OCTETS = { 4 };
+
+    const OCTETS: usize = 4;
+
+    fn read(octets: &[u8]) -> Option<Address> {
+        let Addressed { address, status } = Address::decode(octets.try_into().ok()?)?;
+        if status {
             return None;
         }
-        station_at(self.octets, 4 * index)
+        Some(address)
     }
+
+    ghost some = { Prim.search rules };
+
+    ghost wide = { λ a. refl };
 }
 
-impl Frequencies<'_> {
-    pub fn count(&self) -> usize
-        ensures { result ≡ length self.now.octets.now / 6 }
-    {
-        let octets = self.octets.len();
-        octets / 6
+impl Entry for Frequency {
+    ghost Is = { IsFrequency };
+
+    ghost layout = { frequency_octets };
+
+    ghost OCTETS = { 6 };
+
+    const OCTETS: usize = 6;
+
+    fn read(octets: &[u8]) -> Option<Frequency> {
+        let [high, low, station @ ..] = octets else {
+            return None;
+        };
+        Some(Frequency {
+            tuning: Tuning::decode(*high, *low),
+            station: Address::read(station)?,
+        })
     }
 
-    pub fn entry(&self, index: usize) -> Option<Frequency>
-        ensures { FrequencyAt self.now.octets.now index result }
-    {
-        if index >= self.octets.len() / 6 {
-            return None;
-        }
-        let at = 6 * index;
-        match station_at(self.octets, at + 2) {
-            None => None,
-            Some(station) => Some(Frequency {
-                tuning: Tuning::decode(self.octets[at], self.octets[at + 1]),
-                station,
-            }),
-        }
-    }
+    ghost some = { Prim.search rules };
+
+    ghost wide = { λ f. refl };
 }
 
 // Twelve bits in two's complement.
@@ -120,32 +118,5 @@ fn signed(bits: u16) -> i16
     requires { bits < 4096 }
     ensures { TwelveRead bits result }
 {
-    if bits < 2048 {
-        bits as i16
-    } else {
-        bits as i16 - 4096
-    }
-}
-
-// The address of status 0 that four octets hold.
-fn station_at(octets: &[u8], place: usize) -> Option<Address>
-    requires { place + 4 ≤ length octets.now }
-    ensures { StationRead (take 4 (drop place octets.now)) result }
-{
-    let four = [
-        octets[place],
-        octets[place + 1],
-        octets[place + 2],
-        octets[place + 3],
-    ];
-    match Address::decode(four) {
-        None => None,
-        Some(addressed) => {
-            if addressed.status {
-                None
-            } else {
-                Some(addressed.address)
-            }
-        }
-    }
+    (bits << 4).cast_signed() >> 4
 }

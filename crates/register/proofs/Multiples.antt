@@ -1,7 +1,6 @@
 -- A multiple, and the test of it by the remainder.
-use Rattle.std.proofs.Common.{◌≡◌, ℕ, zero, suc, ◌*◌, ◌/◌, ◌%◌, ◌<◌, ◌≤◌, Bool, true, false, eqb, ltb, refl, ap, ◌∙◌, mul_comm, mul-zero, mul-suc, arith, ltb-true, eqb-true}
+use Rattle.std.proofs.Common.{◌≡◌, ℕ, zero, suc, ◌*◌, ◌/◌, ◌%◌, ◌<◌, ◌≤◌, Bool, true, false, ltb, ◌↔◌, IsTrue, refl, ap, ◌∙◌, mul_comm, mul-zero, mul-suc, arith, ltb-true}
 use native.Mathlib.Nat.{mul-mod_right}
-use borrow.Author.Tests.{eqb-false}
 use Rattle.std.proofs.lemmas.Nat.{div-add-mod'}
 use Rattle.register.specs.Register.{Multiple, Told}
 
@@ -9,14 +8,15 @@ some : (k m n : ℕ) → 0 < n → n ≡ k * m → 1 ≤ m
 some k zero n p e = absurd (omega (arith, mul-zero k))
 some k (suc m) n p e = omega arith
 
-tested : (k n : ℕ) (b : Bool) → eqb (n % k) 0 ≡ b → 0 < n → Told (Multiple k n) b
-tested k n true e p =
-    let whole : n ≡ k * (n / k) = omega (arith, div-add-mod' n k, mul_comm k (n / k), eqb-true (n % k) 0 e) in
+pub told_multiple : (k n : ℕ) (b : Bool) → (IsTrue b ↔ (n % k ≡ 0)) → 0 < n → Told (Multiple k n) b
+told_multiple k n true e p =
+    let whole : n ≡ k * (n / k) = omega (arith, div-add-mod' n k, mul_comm k (n / k), e.0 refl) in
     (n / k, (some k (n / k) n p whole, whole))
-tested k n false e p = λ h. eqb-false (n % k) 0 e (ap (λ x. x % k) h.1.1 ∙ mul-mod_right k h.0)
-
-pub told_multiple : (k n : ℕ) → 0 < n → Told (Multiple k n) (eqb (n % k) 0)
-told_multiple k n p = tested k n (eqb (n % k) 0) refl p
+told_multiple k n false e p =
+    λ h.
+    let z : ◌≡◌ {A = Bool} false true = e.1 (ap (λ x. x % k) h.1.1 ∙ mul-mod_right k h.0) in
+    let o : ◌≡◌ {A = ℕ} 0 1 = cc in
+    omega arith
 
 -- no octets at all are no multiple
 product : (k m : ℕ) → 0 < k → 1 ≤ m → 0 < k * m

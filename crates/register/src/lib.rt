@@ -9,15 +9,19 @@ use crate::rows::ROWS;
 
 mod rows;
 
-// The two groups of an exchange field.
-#[derive(Clone, Copy)]
+// The two groups of an exchange field, in the order in which they stand.
+#[derive(Clone, Copy, PartialEq, Eq, PartialOrd, Ord, Debug)]
 pub enum Group {
-    Public,
-    Private,
+    Public = 0x80,
+    Private = 0xF0,
 }
 
+// No group has this identifier.
+#[derive(Clone, Copy, PartialEq, Eq, Debug)]
+pub struct NoGroup;
+
 // A row of the register: how many octets a value may have; so many times four or six, at least once.
-#[derive(Clone, Copy)]
+#[derive(Clone, Copy, PartialEq, Eq, Debug)]
 pub enum Lengths {
     Any,
     Exactly { octets: u8 },
@@ -31,19 +35,20 @@ impl Group {
     pub fn octet(self) -> u8
         ensures { result ≡ group_octet self }
     {
-        match self {
-            Group::Public => 0x80,
-            Group::Private => 0xF0,
-        }
+        self as u8
     }
+}
 
-    pub fn of_octet(octet: u8) -> Option<Group>
-        ensures { GroupRead octet result }
-    {
+impl TryFrom<u8> for Group {
+    type Error = NoGroup;
+
+    ghost try_from_gives = { GroupRead };
+
+    fn try_from(octet: u8) -> Result<Group, NoGroup> {
         match octet {
-            0x80 => Some(Group::Public),
-            0xF0 => Some(Group::Private),
-            _ => None,
+            0x80 => Ok(Group::Public),
+            0xF0 => Ok(Group::Private),
+            _ => Err(NoGroup),
         }
     }
 }
@@ -83,5 +88,5 @@ fn is_multiple(octets: usize, each: usize) -> bool
     requires { 0 < each }
     ensures { Told (Multiple each octets) result }
 {
-    octets > 0 && octets % each == 0
+    octets > 0 && octets.is_multiple_of(each)
 }

@@ -1,6 +1,6 @@
 -- Replying and declining: the frame that is sent, and what becomes of the debt.
 use Rattle.std.specs.Prelude.{◌≡◌, ℕ, ◌/◌, ◌%◌, Bool, true, List, [], ◌∷◌, Ok, Err, Result}
-use Rattle.cutting.specs.Cutting.{Bits}
+use Rattle.bits.specs.Sink.{Shown}
 use Rattle.frame.specs.Opening.{Content}
 use Rattle.frame.specs.declared.control.Control.TheVariants.{Unnumbered}
 use Rattle.frame.specs.declared.control.Unnumbered.TheVariants.{Xid}
@@ -26,6 +26,6 @@ abbrev pub declined : ℕ → ℕ → List ℕ
 declined cause delay = field_octets (declined_params cause delay)
 
 -- the reply is written as any frame is; where it is refused the debt is handed back as it was
-abbrev pub Pays : Debt → Content → Bits → ℕ → Result ℕ Unpaid → Bits → ℕ → Type 0
-Pays d c held room (Ok n) held' room' = Written c held room (Ok n) held' room'
-Pays d c held room (Err u) held' room' = Written c held room (Err u.error) held' room' × (u.debt ≡ d)
+abbrev pub Pays : Debt → Content → Shown → Result ℕ Unpaid → Shown → Type 0
+Pays d c was (Ok n) is = Written c was (Ok n) is
+Pays d c was (Err u) is = Written c was (Err u.error) is × (u.debt ≡ d)

@@ -1,10 +1,9 @@
 // Opening a frame and reading an XID to its end.
-ghost use Rattle.frame.specs.Opening.{content};
 ghost use Rattle.reply.specs.Checking.{Checks, Owes};
 
 use crate::debt::Debt;
 use faults::FrameFault;
-use frame::{Control, Frame, Kind, Unnumbered, open};
+use frame::{Control, Frame, Heading, Kind, Unnumbered, open};
 use xid::parameters_of;
 
 // A frame without a fault, its count of parameters, and the reply that it leaves owed.
@@ -19,8 +18,8 @@ pub fn check(octets: &[u8]) -> Result<Checked<'_>, FrameFault>
     ensures { Checks octets.now result }
 {
     let frame = open(octets)?;
-    let parameters = parameters_of(frame.control, frame.information)?;
-    let debt = owed(frame);
+    let parameters = parameters_of(frame.heading.control, frame.information)?;
+    let debt = owed(frame.heading);
     Ok(Checked {
         frame,
         parameters,
@@ -29,13 +28,13 @@ pub fn check(octets: &[u8]) -> Result<Checked<'_>, FrameFault>
 }
 
 // An XID command with P at 1 that was not sent to a broadcast type leaves a reply owed.
-fn owed(frame: Frame<'_>) -> Option<Debt>
-    ensures { Owes (content frame.entry) result }
+fn owed(heading: Heading) -> Option<Debt>
+    ensures { Owes heading result }
 {
-    if frame.response {
+    if heading.response {
         return None;
     }
-    match (frame.control, frame.destination.kind) {
+    match (heading.control, heading.destination.kind) {
         (_, Kind::Broadcast) => None,
         (
             Control::Unnumbered {
@@ -44,8 +43,8 @@ fn owed(frame: Frame<'_>) -> Option<Debt>
             },
             _,
         ) => Some(Debt {
-            to: frame.source,
-            from: frame.destination,
+            to: heading.source,
+            from: heading.destination,
         }),
         (_, _) => None,
     }

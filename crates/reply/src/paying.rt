@@ -3,7 +3,7 @@ ghost use Rattle.reply.specs.Paying.{Pays, answer, declined};
 
 use crate::debt::Debt;
 use bits::sink::BitSink;
-use frame::{Control, Frame, Unnumbered};
+use frame::{Control, Frame, Heading, Unnumbered};
 use writer::{WriteError, write_frame};
 
 // A reply that was refused: the debt is still owed.
@@ -19,9 +19,9 @@ pub fn reply<S: BitSink>(
     from_ground: bool,
     information: &[u8],
 ) -> Result<usize, Unpaid>
-    ensures { Pays debt (answer debt from_ground information.now) (S.held sink.old) (S.space sink.old) result (S.held sink.new) (S.space sink.new) }
+    ensures { Pays debt (answer debt from_ground information.now) (S.shown sink.old) result (S.shown sink.new) }
 {
-    let frame = Frame {
+    let heading = Heading {
         destination: debt.to,
         from_ground,
         source: debt.from,
@@ -30,6 +30,9 @@ pub fn reply<S: BitSink>(
             function: Unnumbered::Xid,
             poll: true,
         },
+    };
+    let frame = Frame {
+        heading,
         information,
     };
     match write_frame(sink, &frame) {
@@ -49,21 +52,9 @@ pub fn decline<S: BitSink>(
     cause: u8,
     delay: u16,
 ) -> Result<usize, Unpaid>
-    ensures { Pays debt (answer debt from_ground (declined cause delay)) (S.held sink.old) (S.space sink.old) result (S.held sink.new) (S.space sink.new) }
+    ensures { Pays debt (answer debt from_ground (declined cause delay)) (S.shown sink.old) result (S.shown sink.new) }
 {
-    let information = [
-        0x82,
-        0xF0,
-        0,
-        8,
-        0x00,
-        1,
-        0x56,
-        0x06,
-        3,
-        cause,
-        (delay >> 8) as u8,
-        (delay & 0xFF) as u8,
-    ];
+    let [high, low] = delay.to_be_bytes();
+    let information = [0x82, 0xF0, 0, 8, 0x00, 1, 0x56, 0x06, 3, cause, high, low];
     reply(debt, sink, from_ground, &information)
 }

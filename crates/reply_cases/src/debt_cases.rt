@@ -4,56 +4,52 @@ mod tests {
     use crate::paying::paid;
     use bits::sink::BitSink;
     use bits::text_sink::TextSink;
-    use reply::{Checked, Debt, Unpaid, check as check_frame, reply};
+    use reply::{Checked, Debt, Unpaid, check, reply};
     use std::process::Abort;
     use std::test::Fail;
+    use writer::WriteError;
 
     const COMMAND: [u8; 10] = [0x04, 0x00, 0x00, 0x81, 0x50, 0x00, 0x00, 0x81, 0xBF, 0x82];
 
-    // Refused with this number in a sink of so much room, which is then as it was; and paid after all.
-    fn refused(debt: Debt, room: usize, information: &[u8]) -> (u8, bool, usize) {
-        let mut text = [0; 300];
-        let mut sink = TextSink::new(&mut text[..room.min(300)]);
-        match reply(debt, &mut sink, true, information) {
-            Ok(bits) => (0, true, bits),
-            Err(Unpaid { debt, error }) => {
-                let number = error.number();
-                let same = sink.count() == 0 && sink.room() == room;
-                (number, same, paid(debt))
-            }
-        }
+    fn owed() -> Result<Debt, Fail> {
+        let Checked {
+            frame: _,
+            parameters: _,
+            debt,
+        } = check(&COMMAND)?;
+        debt.ok_or_else(|| Fail::new("nothing owed"))
     }
 
-    fn hands_back(
+    // Replies into this memory. A debt that is handed back is paid after all, and the sink is as it was.
+    fn replies(
         rt: &impl Abort,
-        room: usize,
+        debt: Debt,
+        text: &mut [u8],
         information: &[u8],
-        number: u8,
-    ) -> Result<(), Fail> {
-        match check_frame(&COMMAND) {
-            Err(_) => Err(Fail::new("a fault")),
-            Ok(
-                Checked {
-                    frame: _,
-                    parameters: _,
-                    debt,
-                },
-            ) => match debt {
-                None => Err(Fail::new("nothing owed")),
-                Some(debt) => {
-                    let (found, same, bits) = refused(debt, room, information);
-                    assert!(rt; found == number && same && bits > 0);
-                    Ok(())
-                }
-            },
-        }
+    ) -> Result<usize, WriteError> {
+        let room = text.len();
+        let mut sink = TextSink::new(text);
+        reply(debt, &mut sink, true, information).map_err(|Unpaid { debt, error }| {
+            assert!(rt; paid(debt) > 0);
+            assert!(rt; sink.count() == 0 && sink.room() == room);
+            error
+        })
     }
 
     #[test]
     fn handed_back(rt: HostRuntime) -> Result<(), Fail> {
         // ten octets and their check sequence: room for 16 + 96 + 19 bits is asked for
-        hands_back(&rt, 130, &[0x82], 43)?;
-        hands_back(&rt, 131, &[0x82], 0)?;
-        hands_back(&rt, 131, &[0; 2053], 42)
+        assert_eq!(rt;
+            replies(&rt, owed()?, &mut [0; 130], &[0x82]),
+            Err(WriteError::NoRoom)
+        );
+        assert!(rt; replies(&rt, owed()?, &mut [0; 131], &[0x82])? > 0);
+        assert_eq!(rt;
+            replies(&rt, owed()?, &mut [0; 131], &[0; 2053]),
+            Err(WriteError::TooLong)
+        );
+        assert_eq!(rt; WriteError::NoRoom.number(), 43);
+        assert_eq!(rt; WriteError::TooLong.number(), 42);
+        Ok(())
     }
 }

@@ -3,4 +3,5 @@
 
 mod checking_cases;
 mod debt_cases;
-pub mod paying;
+#[cfg(test)]
+mod paying;

@@ -8,6 +8,6 @@ pub fn paid(debt: Debt) -> usize {
     let mut sink = TextSink::new(&mut text);
     match decline(debt, &mut sink, true, 1, 2) {
         Ok(bits) => bits,
-        Err(_) => unreachable(),
+        Err(_) => unreachable!(),
     }
 }

@@ -69,7 +69,7 @@ trace_input = codes "01111110 0000000 01111110 01010101 01111110 001111111"
 abbrev pub Traced : Type 0
 Traced =
     AllDue (text_bits trace_input) 0 (due 23 (refused NotOctets) ∷ due 39 (refused TooShort) ∷ due 48 aborted ∷ [])
-    × (line_text (line.Refused 1 23 NotOctets) ≡ codes "1 23 refused 13\n")
-    × (line_text (line.Refused 2 39 TooShort) ≡ codes "2 39 refused 14\n")
-    × (line_text (line.Aborted 3 48) ≡ codes "3 48 aborted\n")
+    × (line_text (line.Refused (record { ordinal = 1; taken = 23 }) NotOctets) ≡ codes "1 23 refused 13\n")
+    × (line_text (line.Refused (record { ordinal = 2; taken = 39 }) TooShort) ≡ codes "2 39 refused 14\n")
+    × (line_text (line.Aborted (record { ordinal = 3; taken = 48 })) ≡ codes "3 48 aborted\n")
     × (line_text (line.Taken 48) ≡ codes "taken 48\n")

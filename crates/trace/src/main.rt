@@ -3,8 +3,8 @@
 
 use anyhow::anyhow;
 use bits::text::{MOST_TEXT, TextSource};
-use lines::{Line, make_line};
-use path::dry::{Event, hear_all};
+use lines::{Line, Stamp, make_line};
+use path::dry::{Verdict, hear_all};
 use receiver::Receiver;
 use std::alloc::Global;
 use std::io::{BufWriter, Read, Write};
@@ -31,21 +31,18 @@ impl Tracer {
     // Listens until the piece is dry, and writes the line of every verdict.
     fn hear<W: Write>(&mut self, heap: Global, piece: &[u8], output: &mut W) -> anyhow::Result<()> {
         let mut source = TextSource::new(piece);
-        match hear_all(heap, &mut self.receiver, &mut source) {
-            Err(_) => Err(anyhow!("out of memory")),
-            Ok(heard) => {
-                for event in heard.events.iter() {
-                    self.ordinal = self.ordinal.saturating_add(1);
-                    put(
-                        event_line(self.ordinal, self.taken, event),
-                        &mut self.line,
-                        output,
-                    )?;
-                }
-                self.taken = self.taken.saturating_add(heard.taken);
-                Ok(())
-            }
+        let heard = hear_all(heap, &mut self.receiver, &mut source);
+        let heard = heard.map_err(|_| anyhow!("out of memory"))?;
+        for event in heard.events.iter() {
+            self.ordinal = self.ordinal.saturating_add(1);
+            let stamp = Stamp {
+                ordinal: self.ordinal,
+                taken: self.taken.saturating_add(event.place),
+            };
+            put(verdict_line(stamp, &event.verdict), &mut self.line, output)?;
         }
+        self.taken = self.taken.saturating_add(heard.taken);
+        Ok(())
     }
 
     fn end<W: Write>(&mut self, output: &mut W) -> anyhow::Result<()> {
@@ -53,21 +50,15 @@ impl Tracer {
     }
 }
 
-// The line of a verdict; `before` bits were taken before its piece.
-fn event_line(ordinal: u64, before: u64, event: &Event) -> Line<'_> {
-    match event {
-        Event::Aborted(place) => Line::Aborted {
-            ordinal,
-            taken: before.saturating_add(*place),
-        },
-        Event::Refused(place, fault) => Line::Refused {
-            ordinal,
-            taken: before.saturating_add(*place),
+fn verdict_line(stamp: Stamp, verdict: &Verdict) -> Line<'_> {
+    match verdict {
+        Verdict::Aborted => Line::Aborted { stamp },
+        Verdict::Refused(fault) => Line::Refused {
+            stamp,
             fault: *fault,
         },
-        Event::Frame(place, octets) => Line::Frame {
-            ordinal,
-            taken: before.saturating_add(*place),
+        Verdict::Frame(octets) => Line::Frame {
+            stamp,
             octets: octets.as_slice(),
         },
     }
@@ -78,13 +69,9 @@ fn total_line(total: u64) -> Line<'static> {
 }
 
 fn put<W: Write>(line: Line<'_>, text: &mut [u8], output: &mut W) -> anyhow::Result<()> {
-    match make_line(line, text) {
-        Ok(n) => {
-            output.write_all(&text[0..n])?;
-            Ok(())
-        }
-        Err(_) => Err(anyhow!("no room for a line")),
-    }
+    let length = make_line(line, text).map_err(|_| anyhow!("no room for a line"))?;
+    output.write_all(&text[..length])?;
+    Ok(())
 }
 
 fn trace(rt: &HostRuntime) -> anyhow::Result<()> {

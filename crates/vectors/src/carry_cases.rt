@@ -3,49 +3,47 @@
 mod tests {
     use bits::text::TextSource;
     use bits::text_sink::TextSink;
-    use frame::{Address, Control, Kind, Unnumbered};
-    use path::carrying::{Arrived, carry};
+    use frame::{Address, Control, Heading, Kind, Unnumbered};
+    use path::carrying::{Arrived, Found, carry};
     use receiver::Receiver;
     use std::process::Abort;
     use std::test::Fail;
     use writer::{Order, write_list};
 
+    const AIRCRAFT: Address = Address {
+        kind: Kind::Aircraft,
+        high: 0x40,
+        middle: 0,
+        low: 1,
+    };
+
     fn order(function: Unnumbered, place: usize, length: usize) -> Order {
-        let address = Address {
-            kind: Kind::Aircraft,
-            high: 0x40,
-            middle: 0,
-            low: 1,
-        };
-        Order {
-            destination: address,
+        let heading = Heading {
+            destination: AIRCRAFT,
             from_ground: false,
-            source: address,
+            source: AIRCRAFT,
             response: false,
             control: Control::Unnumbered {
                 function,
                 poll: true,
             },
+        };
+        Order {
+            heading,
             place,
             length,
         }
     }
 
-    // Information of this length, with so many parameters.
-    fn opened(rt: &impl Abort, arrived: &Arrived, length: usize, count: usize) -> Result<(), Fail> {
-        match arrived {
-            Arrived::Opened { place: _, arrival } => {
-                assert!(rt; arrival.information.len() == length);
-                match arrival.parameters {
-                    Ok(n) => {
-                        assert!(rt; n == count);
-                        Ok(())
-                    },
-                    Err(_) => Err(Fail::new("not read")),
-                }
-            }
-            _ => Err(Fail::new("not opened")),
-        }
+    // The frame of this order, with information of its length, and so many parameters.
+    fn opened(rt: &impl Abort, arrived: &Arrived, order: &Order, count: usize) -> Result<(), Fail> {
+        let Found::Opened(arrival) = &arrived.found else {
+            return Err(Fail::new("not opened"));
+        };
+        assert_eq!(rt; arrival.heading, order.heading);
+        assert_eq!(rt; arrival.information.len(), order.length);
+        assert_eq!(rt; arrival.parameters, Ok(count));
+        Ok(())
     }
 
     #[test]
@@ -53,34 +51,21 @@ mod tests {
         let orders = [order(Unnumbered::Xid, 0, 6), order(Unnumbered::Ui, 1, 2)];
         let buffer = [0x82, 0x80, 0, 2, 0x33, 0];
         let mut air = [b' '; 500];
-        {
-            let mut sink = TextSink::new(&mut air);
-            assert!(rt; write_list(&mut sink, &orders, &buffer).is_ok());
-        }
-        let mut source = TextSource::new(&air);
-        let mut receiver = Receiver::new();
+        write_list(&mut TextSink::new(&mut air), &orders, &buffer)?;
         let mut copy = [b' '; 500];
-        let mut sink = TextSink::new(&mut copy);
-        match carry(
+        let carried = carry(
             rt.alloc(),
-            &mut sink,
+            &mut TextSink::new(&mut copy),
             &orders,
             &buffer,
-            &mut receiver,
-            &mut source,
-        ) {
-            Err(_) => Err(Fail::new("not carried")),
-            Ok(carried) => {
-                assert!(rt; carried.taken == carried.bits as u64 && carried.arrivals.len() == 2);
-                for (index, arrived) in carried.arrivals.iter().enumerate() {
-                    if index == 0 {
-                        opened(&rt, arrived, 6, 1)?;
-                    } else {
-                        opened(&rt, arrived, 2, 0)?;
-                    }
-                }
-                Ok(())
-            }
-        }
+            &mut Receiver::new(),
+            &mut TextSource::new(&air),
+        )?;
+        assert_eq!(rt; carried.taken, carried.bits as u64);
+        let [exchange, unnumbered] = carried.arrivals.as_slice() else {
+            return Err(Fail::new("not two frames"));
+        };
+        opened(&rt, exchange, &orders[0], 1)?;
+        opened(&rt, unnumbered, &orders[1], 0)
     }
 }

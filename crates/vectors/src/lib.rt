@@ -2,6 +2,8 @@
 #![tactic(auto)]
 
 mod carry_cases;
+#[cfg(test)]
+mod counting;
 mod cutting_cases;
 mod fcs_cases;
 mod layer_cases;

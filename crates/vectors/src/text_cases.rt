@@ -1,27 +1,11 @@
 // Text sources at their edges.
 #[cfg(test)]
 mod tests {
-    use bits::source::BitSource;
+    use crate::counting;
     use bits::text::TextSource;
-    use std::test::Fail;
 
-    // How many bits wait, and how many of them are ones.
-    fn counted(text: &[u8]) -> (u32, u32) {
-        let mut source = TextSource::new(text);
-        let mut bits = 0u32;
-        let mut ones = 0u32;
-        for _ in 0..70_000 {
-            match source.take() {
-                None => return (bits, ones),
-                Some(bit) => {
-                    bits = bits.saturating_add(1);
-                    if bit {
-                        ones = ones.saturating_add(1);
-                    }
-                }
-            }
-        }
-        (bits, ones)
+    fn counted(text: &[u8]) -> (usize, usize) {
+        counting::counted(TextSource::new(text))
     }
 
     #[test]
@@ -34,19 +18,15 @@ mod tests {
     }
 
     #[test]
-    fn reads_65536_octets_at_most(rt: HostRuntime) -> Result<(), Fail> {
-        let mut text = vec![in rt.alloc(); b'0'; 65_537]?;
+    fn reads_65536_octets_at_most(rt: HostRuntime) {
+        let mut text = [b'0'; 65_537];
         assert_eq!(rt; counted(&text), (65_536, 0));
-        assert!(rt; text.len() == 65_537);
         text[65_535] = b'1';
         assert_eq!(rt; counted(&text), (65_536, 1));
         text[65_535] = b'0';
-        assert!(rt; text.len() == 65_537);
         text[65_536] = b'1';
         assert_eq!(rt; counted(&text), (65_536, 0));
-        assert!(rt; text.len() == 65_537);
         text[0] = b' ';
         assert_eq!(rt; counted(&text), (65_535, 0));
-        Ok(())
     }
 }

@@ -16,22 +16,23 @@ pub const GIVEN: [bool; 15] = [
 ];
 
 fn walk(rt: &HostRuntime) -> anyhow::Result<()> {
-    let mut information = [0; 64];
-    let length = composed(&mut information)?;
-    println!(rt; "composed {length} octets")?;
-    show_octets(rt, &information[..length.min(64)])?;
-    let mut memory = [0; 128];
-    let bits = written(&information[..length.min(64)], &mut memory)?;
-    println!(rt; "written {bits} bits: 13 of noise, and the frame twice")?;
-    show_octets(rt, &memory[..bits.div_ceil(8).min(128)])?;
-    let mut buffer = [0; 2061];
-    let caught = heard(&memory, bits, &mut buffer)?;
+    let information = composed(rt.alloc())?;
+    println!(rt; "composed {} octets", information.len())?;
+    show_octets(rt, &information)?;
+    let sent = written(rt.alloc(), &information)?;
+    println!(rt;
+        "written {} bits: 13 of noise, and the frame twice",
+        sent.bits
+    )?;
+    show_octets(rt, &sent.octets)?;
+    let caught = heard(rt.alloc(), &sent)?;
     println!(rt; "carrier lost behind {} bits", caught.lost)?;
     println!(rt;
         "heard a frame of {} octets in {} bits more",
-        caught.octets, caught.taken
+        caught.octets.len(),
+        caught.taken
     )?;
-    answer(rt, &buffer[..caught.octets.min(2061)])
+    answer(rt, &caught.octets)
 }
 
 // The row of the display, and a reply where one is owed.

@@ -17,14 +17,14 @@ pub fn show_octets(rt: &HostRuntime, octets: &[u8]) -> anyhow::Result<()> {
 pub fn show_row(rt: &HostRuntime, frame: &Frame<'_>, parameters: usize) -> anyhow::Result<()> {
     println!(rt;
         "from {:06X}, {parameters} parameters",
-        frame.source.number()
+        frame.heading.source.number()
     )?;
     let mut reader = Reader::new(frame.information);
     for _ in 0..parameters {
-        match reader.next() {
-            Ok(Some(parameter)) => show_record(rt, &parameter.record)?,
-            _ => return Err(anyhow!("fewer parameters")),
-        }
+        let Ok(Some(parameter)) = reader.next() else {
+            return Err(anyhow!("fewer parameters"));
+        };
+        show_record(rt, &parameter.record)?;
     }
     Ok(())
 }
@@ -50,10 +50,8 @@ fn show_tenths(rt: &HostRuntime, name: &str, tenths: i16) -> anyhow::Result<()> 
 }
 
 fn show_stations(rt: &HostRuntime, stations: &Stations<'_>) -> anyhow::Result<()> {
-    for index in 0..stations.count() {
-        if let Some(station) = stations.entry(index) {
-            println!(rt; "station {:06X}", station.number())?;
-        }
+    for station in (0..stations.count()).filter_map(|index| stations.entry(index)) {
+        println!(rt; "station {:06X}", station.number())?;
     }
     Ok(())
 }

@@ -5,9 +5,11 @@ use crate::GIVEN;
 use anyhow::anyhow;
 use bits::sink::BitSink;
 use composer::{Item, compose};
-use frame::{Address, Control, Frame, Kind, Unnumbered};
+use frame::{Address, Control, Frame, Heading, Kind, Unnumbered};
 use layers::pile::pile_sink;
+use register::Group;
 use reply::{Debt, reply};
+use std::alloc::Global;
 use writer::write_frame;
 
 // Set identification, latitude −33.9°, longitude 151.2° and 35,000 feet, and two wanted ground stations.
@@ -15,36 +17,38 @@ const VALUES: [u8; 13] = [
     0x56, 0xEA, 0xD5, 0xE8, 0x23, 0x04, 0x00, 0x00, 0x81, 0x14, 0x42, 0xE2, 0x4F,
 ];
 
-pub fn composed(out: &mut [u8; 64]) -> anyhow::Result<usize> {
-    let items = [
-        Item {
-            group: 0xF0,
-            identifier: 0x00,
-            place: 0,
-            length: 1,
-        },
-        Item {
-            group: 0xF0,
-            identifier: 0x84,
-            place: 1,
-            length: 4,
-        },
-        Item {
-            group: 0xF0,
-            identifier: 0x82,
-            place: 5,
-            length: 8,
-        },
-    ];
-    match compose(&items, &VALUES, out) {
-        Ok(n) => Ok(n),
-        Err(_) => Err(anyhow!("not composed")),
+// The bits written, and the octets that they are packed into.
+#[derive(Drop)]
+pub struct Sent {
+    pub bits: usize,
+    pub octets: Vec<u8>,
+}
+
+// A parameter of the private group.
+fn private(identifier: u8, place: usize, length: usize) -> Item {
+    Item {
+        group: Group::Private.octet(),
+        identifier,
+        place,
+        length,
     }
+}
+
+pub fn composed(heap: Global) -> anyhow::Result<Vec<u8>> {
+    let items = [
+        private(0x00, 0, 1),
+        private(0x84, 1, 4),
+        private(0x82, 5, 8),
+    ];
+    let mut out = vec![in heap; 0u8; 64]?;
+    let length = compose(&items, &VALUES, &mut out).map_err(|_| anyhow!("not composed"))?;
+    out.truncate(length);
+    Ok(out)
 }
 
 // An XID command with P at 1, from aircraft 400001h to ground station 1.
 fn command(information: &[u8]) -> Frame<'_> {
-    Frame {
+    let heading = Heading {
         destination: Address {
             kind: Kind::GroundAdministered,
             high: 0,
@@ -63,23 +67,30 @@ fn command(information: &[u8]) -> Frame<'_> {
             function: Unnumbered::Xid,
             poll: true,
         },
+    };
+    Frame {
+        heading,
         information,
     }
 }
 
-// Thirteen bits of noise, and the command twice; answers all the bits put.
-pub fn written(information: &[u8], memory: &mut [u8; 128]) -> anyhow::Result<usize> {
+// Thirteen bits of noise, and the command twice.
+pub fn written(heap: Global, information: &[u8]) -> anyhow::Result<Sent> {
     let frame = command(information);
-    let mut sink = pile_sink(memory, 1024, &GIVEN);
+    let mut octets = vec![in heap; 0u8; 128]?;
+    let bits = put(&mut octets, &frame)?;
+    octets.truncate(bits.div_ceil(8));
+    Ok(Sent { bits, octets })
+}
+
+fn put(octets: &mut [u8], frame: &Frame<'_>) -> anyhow::Result<usize> {
+    let mut sink = pile_sink(octets, 1024, &GIVEN);
     for k in 0..13u8 {
-        if sink.put(k % 3 == 0).is_err() {
-            return Err(anyhow!("no room for noise"));
-        }
+        sink.put(k % 3 == 0)
+            .map_err(|_| anyhow!("no room for noise"))?;
     }
     for _ in 0..2u8 {
-        if write_frame(&mut sink, &frame).is_err() {
-            return Err(anyhow!("not written"));
-        }
+        write_frame(&mut sink, frame).map_err(|_| anyhow!("not written"))?;
     }
     Ok(sink.count())
 }
@@ -89,6 +100,6 @@ pub fn answered(debt: Debt, memory: &mut [u8; 64]) -> usize {
     let mut sink = pile_sink(memory, 512, &GIVEN);
     match reply(debt, &mut sink, true, &[0x82]) {
         Ok(bits) => bits,
-        Err(_) => unreachable(),
+        Err(_) => unreachable!(),
     }
 }

@@ -9,5 +9,5 @@ use Rattle.writer.specs.declared.single.WriteError.TheVariants.{Unsuited}
 
 -- a frame that suits has its nine octets, and its addresses are addresses; one that does not is refused
 abbrev pub Headed : Frame → Result (List ℕ) WriteError → Type 0
-Headed f (Ok os) = Suited (content f) × IsAddress f.destination × IsAddress f.source × (os ≡ header (content f))
+Headed f (Ok os) = Suited (content f) × IsAddress f.heading.destination × IsAddress f.heading.source × (os ≡ header (content f))
 Headed f (Err e) = (Suited (content f) → ⊥) × (e ≡ Unsuited)

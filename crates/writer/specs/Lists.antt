@@ -1,8 +1,8 @@
 -- Writing a list of frames whose information lies in one buffer.
 use Rattle.std.specs.Prelude.{◌≡◌, ℕ, ◌+◌, ◌-◌, ◌≤◌, List, [], ◌∷◌, ◌++◌, map, length, take, drop, Ok, Err, Result}
-use Rattle.cutting.specs.Cutting.{Bits}
+use Rattle.bits.specs.Sink.{Shown}
 use Rattle.cutting.specs.Stuffing.{frame_bits, put_bits}
-use Rattle.frame.specs.Opening.{Content, layout}
+use Rattle.frame.specs.Opening.{Content, content_of, layout}
 use Rattle.writer.specs.Putting.{Appended}
 use Rattle.writer.specs.Writing.{write_number, Refused as FrameRefused, Accepted}
 use Rattle.writer.specs.declared.list.Order.{Order}
@@ -16,15 +16,7 @@ list_number (Refused frame error) = write_number error
 
 -- the frame that an order asks for
 abbrev pub ordered : List ℕ → Order → Content
-ordered buffer o =
-    record {
-      destination = o.destination;
-      from_ground = o.from_ground;
-      source = o.source;
-      response = o.response;
-      control = o.control;
-      information = take o.length (drop o.place buffer);
-    }
+ordered buffer o = content_of o.heading (take o.length (drop o.place buffer))
 
 abbrev pub layouts : List ℕ → List Order → List (List ℕ)
 layouts buffer orders = map (λ o. layout (ordered buffer o)) orders
@@ -53,12 +45,12 @@ pub record FirstRefused (orders : List Order) (buffer : List ℕ) (room : ℕ) (
   pub refused : OrderRefused buffer (room - length (put_bits (layouts buffer before))) (length before) order e
 
 -- writing a list: the bits of all its frames in order, and their number; or the first refusal, and the sink is as it was
-abbrev pub ListWritten : List Order → List ℕ → Bits → ℕ → Result ℕ ListError → Bits → ℕ → Type 0
-ListWritten orders buffer held room (Ok n) held' room' = AllAccepted buffer room orders × Appended (put_bits (layouts buffer orders)) held room n held' room'
-ListWritten orders buffer held room (Err e) held' room' = FirstRefused orders buffer room e × (held' ≡ held) × (room' ≡ room)
+abbrev pub ListWritten : List Order → List ℕ → Shown → Result ℕ ListError → Shown → Type 0
+ListWritten orders buffer was (Ok n) is = AllAccepted buffer was.space orders × Appended (put_bits (layouts buffer orders)) was n is
+ListWritten orders buffer was (Err e) is = FirstRefused orders buffer was.space e × (is ≡ was)
 
 -- one frame of a list
-abbrev pub OrderWritten : ℕ → Order → List ℕ → Bits → ℕ → Result ℕ ListError → Bits → ℕ → Type 0
-OrderWritten i o buffer held room (Ok n) held' room' =
-    Inside buffer o × Accepted (ordered buffer o) room × Appended (frame_bits (layout (ordered buffer o))) held room n held' room'
-OrderWritten i o buffer held room (Err e) held' room' = OrderRefused buffer room i o e × (held' ≡ held) × (room' ≡ room)
+abbrev pub OrderWritten : ℕ → Order → List ℕ → Shown → Result ℕ ListError → Shown → Type 0
+OrderWritten i o buffer was (Ok n) is =
+    Inside buffer o × Accepted (ordered buffer o) was.space × Appended (frame_bits (layout (ordered buffer o))) was n is
+OrderWritten i o buffer was (Err e) is = OrderRefused buffer was.space i o e × (is ≡ was)

@@ -1,6 +1,6 @@
 -- Writing one frame: what is put, and when it is refused.
 use Rattle.std.specs.Prelude.{◌≡◌, ℕ, ◌+◌, ◌*◌, ◌/◌, ◌<◌, ◌≤◌, length, Ok, Err, Result}
-use Rattle.cutting.specs.Cutting.{Bits}
+use Rattle.bits.specs.Sink.{Shown}
 use Rattle.cutting.specs.Stuffing.{frame_bits}
 use Rattle.frame.specs.Controls.{Numbered, Suits}
 use Rattle.frame.specs.Opening.{Content, layout, Layable}
@@ -35,6 +35,6 @@ pub record Accepted (c : Content) (room : ℕ) : Type 0 where
   pub enough : foretold (length (layout c)) ≤ room
 
 -- writing a frame: its bits behind what the sink held, and their number; or the first refusal, and the sink is as it was
-abbrev pub Written : Content → Bits → ℕ → Result ℕ WriteError → Bits → ℕ → Type 0
-Written c held room (Ok n) held' room' = Accepted c room × Appended (frame_bits (layout c)) held room n held' room'
-Written c held room (Err e) held' room' = Refused c room e × (held' ≡ held) × (room' ≡ room)
+abbrev pub Written : Content → Shown → Result ℕ WriteError → Shown → Type 0
+Written c was (Ok n) is = Accepted c was.space × Appended (frame_bits (layout c)) was n is
+Written c was (Err e) is = Refused c was.space e × (is ≡ was)

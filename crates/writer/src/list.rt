@@ -4,22 +4,18 @@ ghost use Rattle.writer.specs.Lists.{list_number, ListWritten, OrderWritten};
 
 use crate::single::{WriteError, write_frame};
 use bits::sink::BitSink;
-use frame::{Address, Control, Frame};
+use frame::{Frame, Heading};
 
 // A frame to write, whose information lies in a buffer beside it.
-#[derive(Clone, Copy)]
+#[derive(Clone, Copy, PartialEq, Eq, Debug)]
 pub struct Order {
-    pub destination: Address,
-    pub from_ground: bool,
-    pub source: Address,
-    pub response: bool,
-    pub control: Control,
+    pub heading: Heading,
     pub place: usize,
     pub length: usize,
 }
 
 // Why a list is not written; the frame is named by its index from 0.
-#[derive(Clone, Copy)]
+#[derive(Clone, Copy, PartialEq, Eq, Debug)]
 pub enum ListError {
     Outside { frame: usize },
     Refused { frame: usize, error: WriteError },
@@ -30,8 +26,8 @@ impl ListError {
         ensures { result ≡ list_number self }
     {
         match self {
-            ListError::Outside { frame: _ } => 44,
-            ListError::Refused { frame: _, error } => error.number(),
+            ListError::Outside { .. } => 44,
+            ListError::Refused { error, .. } => error.number(),
         }
     }
 }
@@ -42,17 +38,14 @@ pub fn write_list<S: BitSink>(
     orders: &[Order],
     buffer: &[u8],
 ) -> Result<usize, ListError>
-    ensures { ListWritten orders.now buffer.now (S.held sink.old) (S.space sink.old) result (S.held sink.new) (S.space sink.new) }
+    ensures { ListWritten orders.now buffer.now (S.shown sink.old) result (S.shown sink.new) }
 {
     let before = sink.count();
     for (index, order) in orders.iter().enumerate() {
-        match write_order(sink, index, order, buffer) {
-            Ok(_) => {}
-            Err(error) => {
-                // what was put for the frames before
-                let _ = sink.cut_back(before);
-                return Err(error);
-            }
+        if let Err(error) = write_order(sink, index, order, buffer) {
+            // what was put for the frames before
+            let _ = sink.cut_back(before);
+            return Err(error);
         }
     }
     Ok(sink.count() - before)
@@ -65,24 +58,18 @@ fn write_order<S: BitSink>(
     order: &Order,
     buffer: &[u8],
 ) -> Result<usize, ListError>
-    ensures { OrderWritten index order.now buffer.now (S.held sink.old) (S.space sink.old) result (S.held sink.new) (S.space sink.new) }
+    ensures { OrderWritten index order.now buffer.now (S.shown sink.old) result (S.shown sink.new) }
 {
-    if order.place > buffer.len() || order.length > buffer.len() - order.place {
-        return Err(ListError::Outside { frame: index });
-    }
+    let information = buffer
+        .get(order.place..)
+        .and_then(|rest| rest.get(..order.length))
+        .ok_or(ListError::Outside { frame: index })?;
     let frame = Frame {
-        destination: order.destination,
-        from_ground: order.from_ground,
-        source: order.source,
-        response: order.response,
-        control: order.control,
-        information: &buffer[order.place..order.place + order.length],
+        heading: order.heading,
+        information,
     };
-    match write_frame(sink, &frame) {
-        Ok(bits) => Ok(bits),
-        Err(error) => Err(ListError::Refused {
-            frame: index,
-            error,
-        }),
-    }
+    write_frame(sink, &frame).map_err(|error| ListError::Refused {
+        frame: index,
+        error,
+    })
 }

@@ -12,28 +12,24 @@ use frame::Frame;
 const MOST_INFORMATION: usize = 2052;
 
 // Why a frame is not written.
-#[derive(Clone, Copy)]
+#[derive(Clone, Copy, PartialEq, Eq, Debug)]
 pub enum WriteError {
-    Unsuited,
-    TooLong,
-    NoRoom,
+    Unsuited = 41,
+    TooLong = 42,
+    NoRoom = 43,
 }
 
 impl WriteError {
     pub fn number(self) -> u8
         ensures { result ≡ write_number self }
     {
-        match self {
-            WriteError::Unsuited => 41,
-            WriteError::TooLong => 42,
-            WriteError::NoRoom => 43,
-        }
+        self as u8
     }
 }
 
 // Puts a frame's bits and answers how many they are.
 pub fn write_frame<S: BitSink>(sink: &mut S, frame: &Frame<'_>) -> Result<usize, WriteError>
-    ensures { Written (content frame.now) (S.held sink.old) (S.space sink.old) result (S.held sink.new) (S.space sink.new) }
+    ensures { Written (content frame.now) (S.shown sink.old) result (S.shown sink.new) }
 {
     let header = header_of(*frame)?;
     if frame.information.len() > MOST_INFORMATION {
@@ -49,13 +45,10 @@ pub fn write_frame<S: BitSink>(sink: &mut S, frame: &Frame<'_>) -> Result<usize,
 fn header_of(frame: Frame<'_>) -> Result<[u8; 9], WriteError>
     ensures { Headed frame.entry result }
 {
-    if !frame.control.suits(frame.information.len()) {
+    if !frame.heading.control.suits(frame.information.len()) {
         return Err(WriteError::Unsuited);
     }
-    match frame.header() {
-        Err(_) => Err(WriteError::Unsuited),
-        Ok(header) => Ok(header),
-    }
+    frame.heading.octets().map_err(|_| WriteError::Unsuited)
 }
 
 // The most bits that a frame of so many octets is put as.

@@ -3,8 +3,9 @@
 mod tests {
     use bits::packed_sink::PackedSink;
     use bits::packed_source::PackedSource;
-    use frame::{Address, Control, Frame, Kind, Unnumbered, open};
+    use frame::{Address, Control, Frame, Heading, Kind, Unnumbered, open};
     use receiver::{Answer, Receiver};
+    use std::array;
     use std::process::Abort;
     use std::test::Fail;
     use writer::write_frame;
@@ -18,8 +19,8 @@ mod tests {
         (random(seed) & 0xFF) as u8
     }
 
-    fn test_frame(address: Address, information: &[u8]) -> Frame<'_> {
-        Frame {
+    fn test_heading(address: Address) -> Heading {
+        Heading {
             destination: address,
             from_ground: true,
             source: address,
@@ -28,7 +29,6 @@ mod tests {
                 function: Unnumbered::Test,
                 poll: true,
             },
-            information,
         }
     }
 
@@ -40,51 +40,29 @@ mod tests {
             middle: octet(seed),
             low: octet(seed),
         };
-        let frame = test_frame(address, information);
+        let frame = Frame {
+            heading: test_heading(address),
+            information,
+        };
         let mut memory = [0; 200];
-        let mut bits = 0;
-        {
-            let mut sink = PackedSink::new(&mut memory, usize::MAX);
-            match write_frame(&mut sink, &frame) {
-                Ok(n) => bits = n,
-                Err(_) => return Err(Fail::new("not written")),
-            }
-        }
+        let bits = write_frame(&mut PackedSink::new(&mut memory, usize::MAX), &frame)?;
         let mut source = PackedSource::new(&memory, bits);
         let mut receiver = Receiver::new();
         for _ in 0..2000 {
             let mut buffer = [0; 2061];
-            match receiver.listen(&mut source, random(seed) % 64, &mut buffer) {
-                Err(_) => return Err(Fail::new("refused")),
-                Ok(heard) => match heard.answer {
-                    Answer::Paused => {}
-                    Answer::Frame(n) => return opens(rt, &buffer[..n.min(2061)], &frame),
-                    _ => return Err(Fail::new("no frame")),
-                },
+            let heard = receiver.listen(&mut source, random(seed) % 64, &mut buffer)?;
+            if let Answer::Frame(n) = heard.answer {
+                assert_eq!(rt; open(&buffer[..n])?, frame);
+                return Ok(());
             }
+            assert_eq!(rt; heard.answer, Answer::Paused);
         }
         Err(Fail::new("never heard"))
     }
 
-    fn opens(rt: &impl Abort, octets: &[u8], frame: &Frame<'_>) -> Result<(), Fail> {
-        match open(octets) {
-            Err(_) => Err(Fail::new("not opened")),
-            Ok(opened) => {
-                assert!(rt; opened.information == frame.information);
-                assert!(rt; opened.source.number() == frame.source.number());
-                assert!(rt; opened.response && opened.from_ground);
-                Ok(())
-            }
-        }
-    }
-
     // Octets with many ones.
     fn filled(seed: &mut u32) -> [u8; 96] {
-        let mut octets = [0; 96];
-        for at in 0..96usize {
-            octets[at] = octet(seed) | octet(seed);
-        }
-        octets
+        array::from_fn(|_| octet(seed) | octet(seed))
     }
 
     #[test]

@@ -2,6 +2,8 @@
 #![tactic(auto)]
 
 mod generated_cases;
+#[cfg(test)]
+mod hearing;
 mod layered_cases;
 mod list_cases;
 mod single_cases;

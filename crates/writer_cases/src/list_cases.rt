@@ -3,51 +3,46 @@
 mod tests {
     use bits::sink::BitSink;
     use bits::text_sink::TextSink;
-    use frame::{Address, Control, Kind, Unnumbered};
+    use frame::{Address, Control, Heading, Kind, Unnumbered};
     use std::process::Abort;
     use std::test::Fail;
-    use writer::{ListError, Order, write_list};
+    use writer::{ListError, Order, WriteError, write_list};
+
+    const EVERYONE: Address = Address {
+        kind: Kind::Broadcast,
+        high: 0xFF,
+        middle: 0xFF,
+        low: 0xFF,
+    };
 
     fn order(function: Unnumbered, place: usize, length: usize) -> Order {
-        let address = Address {
-            kind: Kind::Broadcast,
-            high: 0xFF,
-            middle: 0xFF,
-            low: 0xFF,
-        };
-        Order {
-            destination: address,
+        let heading = Heading {
+            destination: EVERYONE,
             from_ground: true,
-            source: address,
+            source: EVERYONE,
             response: false,
             control: Control::Unnumbered {
                 function,
                 poll: false,
             },
+        };
+        Order {
+            heading,
             place,
             length,
         }
     }
 
-    fn frame_of(error: ListError) -> usize {
-        match error {
-            ListError::Outside { frame } => frame,
-            ListError::Refused { frame, error: _ } => frame,
-        }
-    }
-
-    // Behind three bits that the sink holds: the list is refused at this frame, and the sink is as it was.
-    fn refuses(rt: &impl Abort, orders: &[Order], number: u8, frame: usize) -> Result<(), Fail> {
+    // Behind three bits that the sink holds: the list is refused with this error, and the sink is as it was.
+    fn refuses(rt: &impl Abort, orders: &[Order], error: ListError) -> Result<(), Fail> {
         let mut text = [b'x'; 360];
         let mut sink = TextSink::new(&mut text);
         for _ in 0..3 {
-            assert!(rt; sink.put(true).is_ok());
+            sink.put(true)?;
         }
-        match write_list(&mut sink, orders, &[1, 2, 3, 4]) {
-            Ok(_) => return Err(Fail::new("written")),
-            Err(e) => assert!(rt; e.number() == number && frame_of(e) == frame),
-        }
-        assert!(rt; sink.count() == 3 && sink.room() == 357);
+        assert_eq!(rt; write_list(&mut sink, orders, &[1, 2, 3, 4]), Err(error));
+        assert_eq!(rt; sink.count(), 3);
+        assert_eq!(rt; sink.room(), 357);
         Ok(())
     }
 
@@ -55,30 +50,18 @@ mod tests {
     fn whole(rt: HostRuntime) -> Result<(), Fail> {
         let mut text = [b'x'; 360];
         let mut sink = TextSink::new(&mut text);
-        match write_list(
-            &mut sink,
-            &[order(Unnumbered::Ua, 0, 0), order(Unnumbered::Ui, 2, 2)],
-            &[1, 2, 3, 4],
-        ) {
-            Ok(n) => {
-                assert!(rt; sink.count() == n && n > 200);
-                Ok(())
-            },
-            Err(_) => Err(Fail::new("refused")),
-        }
+        let orders = [order(Unnumbered::Ua, 0, 0), order(Unnumbered::Ui, 2, 2)];
+        let bits = write_list(&mut sink, &orders, &[1, 2, 3, 4])?;
+        assert!(rt; sink.count() == bits && bits > 200);
+        Ok(())
     }
 
     #[test]
-    fn empty(rt: HostRuntime) -> Result<(), Fail> {
+    fn empty(rt: HostRuntime) {
         let mut text = [b'x'; 4];
         let mut sink = TextSink::new(&mut text);
-        match write_list(&mut sink, &[], &[]) {
-            Ok(n) => {
-                assert!(rt; n == 0 && sink.count() == 0);
-                Ok(())
-            },
-            Err(_) => Err(Fail::new("refused")),
-        }
+        assert_eq!(rt; write_list(&mut sink, &[], &[]), Ok(0));
+        assert_eq!(rt; sink.count(), 0);
     }
 
     #[test]
@@ -86,12 +69,34 @@ mod tests {
         let good = order(Unnumbered::Ui, 0, 1);
         let bad = order(Unnumbered::Ua, 0, 1);
         let outside = order(Unnumbered::Ua, 3, 2);
-        refuses(&rt, &[bad, good, good], 41, 0)?;
-        refuses(&rt, &[good, bad, good], 41, 1)?;
-        refuses(&rt, &[good, good, outside], 44, 2)?;
+        let refused = |frame: usize, error: WriteError| ListError::Refused { frame, error };
+        refuses(&rt, &[bad, good, good], refused(0, WriteError::Unsuited))?;
+        refuses(&rt, &[good, bad, good], refused(1, WriteError::Unsuited))?;
+        refuses(&rt, &[good, good, outside], ListError::Outside { frame: 2 })?;
         // room for two frames, and not for a third
-        refuses(&rt, &[good, good, good], 43, 2)?;
-        refuses(&rt, &[order(Unnumbered::Ui, 5, 0)], 44, 0)?;
-        refuses(&rt, &[order(Unnumbered::Ui, usize::MAX, usize::MAX)], 44, 0)
+        refuses(&rt, &[good, good, good], refused(2, WriteError::NoRoom))?;
+        refuses(
+            &rt,
+            &[order(Unnumbered::Ui, 5, 0)],
+            ListError::Outside { frame: 0 },
+        )?;
+        refuses(
+            &rt,
+            &[order(Unnumbered::Ui, usize::MAX, usize::MAX)],
+            ListError::Outside { frame: 0 },
+        )
+    }
+
+    #[test]
+    fn numbers(rt: HostRuntime) {
+        assert_eq!(rt; ListError::Outside { frame: 0 }.number(), 44);
+        for (error, number) in [
+            (WriteError::Unsuited, 41),
+            (WriteError::TooLong, 42),
+            (WriteError::NoRoom, 43),
+        ] {
+            assert_eq!(rt; error.number(), number);
+            assert_eq!(rt; ListError::Refused { frame: 0, error }.number(), number);
+        }
     }
 }

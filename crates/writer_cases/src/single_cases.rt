@@ -1,16 +1,15 @@
 // Single frames: every control, the lengths of information, the room.
 #[cfg(test)]
 mod tests {
+    use crate::hearing::hears;
     use bits::packed_sink::PackedSink;
     use bits::packed_source::PackedSource;
     use bits::sink::BitSink;
-    use bits::source::BitSource;
     use bits::text_sink::TextSink;
-    use frame::{Address, Control, Frame, Kind, Supervisory, Unnumbered, open};
-    use receiver::{Answer, Receiver};
+    use frame::{Address, Control, Frame, Heading, Kind, Supervisory, Unnumbered};
     use std::process::Abort;
     use std::test::Fail;
-    use writer::write_frame;
+    use writer::{WriteError, write_frame};
 
     const FILL: [u8; 2053] = [0xFF; 2053];
 
@@ -24,12 +23,15 @@ mod tests {
     }
 
     fn frame(control: Control, information: &[u8]) -> Frame<'_> {
-        Frame {
+        let heading = Heading {
             destination: address(Kind::GroundAdministered, 1),
             from_ground: false,
             source: address(Kind::Aircraft, 2),
             response: true,
             control,
+        };
+        Frame {
+            heading,
             information,
         }
     }
@@ -44,66 +46,23 @@ mod tests {
         )
     }
 
-    // The octets open to this frame.
-    fn same(rt: &impl Abort, octets: &[u8], frame: &Frame<'_>) -> Result<(), Fail> {
-        match open(octets) {
-            Err(_) => Err(Fail::new("not opened")),
-            Ok(opened) => {
-                assert!(rt; opened.information == frame.information);
-                match (opened.header(), frame.header()) {
-                    (Ok(a), Ok(b)) => {
-                        assert!(rt; a == b);
-                        Ok(())
-                    },
-                    _ => Err(Fail::new("no header")),
-                }
-            }
-        }
-    }
-
-    fn hears<S: BitSource>(rt: &impl Abort, source: &mut S, frame: &Frame<'_>) -> Result<(), Fail> {
-        let mut receiver = Receiver::new();
-        let mut buffer = [0; 2061];
-        match receiver.listen(source, u32::MAX, &mut buffer) {
-            Err(_) => Err(Fail::new("refused")),
-            Ok(heard) => match heard.answer {
-                Answer::Frame(n) => {
-                    assert!(rt; n <= 2061);
-                    same(rt, &buffer[..n.min(2061)], frame)
-                }
-                _ => Err(Fail::new("no frame")),
-            },
-        }
-    }
-
     // Written, heard and opened again.
     fn carries(rt: &impl Abort, frame: &Frame<'_>) -> Result<(), Fail> {
         let mut memory = [0; 2600];
-        let mut bits = 0;
-        {
-            let mut sink = PackedSink::new(&mut memory, usize::MAX);
-            match write_frame(&mut sink, frame) {
-                Err(_) => return Err(Fail::new("not written")),
-                Ok(n) => bits = n,
-            }
-            assert!(rt; sink.count() == bits);
-        }
-        let mut source = PackedSource::new(&memory, bits);
-        hears(rt, &mut source, frame)
+        let mut sink = PackedSink::new(&mut memory, usize::MAX);
+        let bits = write_frame(&mut sink, frame)?;
+        assert_eq!(rt; sink.count(), bits);
+        hears(rt, &mut PackedSource::new(sink.finish(), bits), frame)?;
+        Ok(())
     }
 
-    fn refuses(rt: &impl Abort, frame: &Frame<'_>, number: u8) -> Result<(), Fail> {
+    // Refused with this error, and nothing is put.
+    fn refuses(rt: &impl Abort, frame: &Frame<'_>, error: WriteError) {
         let mut memory = [7; 2600];
-        {
-            let mut sink = PackedSink::new(&mut memory, usize::MAX);
-            match write_frame(&mut sink, frame) {
-                Ok(_) => return Err(Fail::new("written")),
-                Err(e) => assert!(rt; e.number() == number),
-            }
-            assert!(rt; sink.count() == 0);
-        }
+        let mut sink = PackedSink::new(&mut memory, usize::MAX);
+        assert_eq!(rt; write_frame(&mut sink, frame), Err(error));
+        assert_eq!(rt; sink.count(), 0);
         assert!(rt; memory == [7; 2600]);
-        Ok(())
     }
 
     #[test]
@@ -119,73 +78,55 @@ mod tests {
 
     #[test]
     fn every_numbered(rt: HostRuntime) -> Result<(), Fail> {
-        carries(
-            &rt,
-            &frame(
-                Control::Information {
-                    send: 7,
-                    poll: true,
-                    receive: 7,
-                },
-                &FILL[..1],
-            ),
-        )?;
-        carries(
-            &rt,
-            &frame(
-                Control::Supervisory {
-                    function: Supervisory::Rr,
-                    poll: false,
-                    receive: 0,
-                },
-                &[],
-            ),
-        )?;
-        carries(
-            &rt,
-            &frame(
-                Control::Supervisory {
-                    function: Supervisory::Srej,
-                    poll: true,
-                    receive: 3,
-                },
-                &[0x00],
-            ),
-        )
+        let information = Control::Information {
+            send: 7,
+            poll: true,
+            receive: 7,
+        };
+        let ready = Control::Supervisory {
+            function: Supervisory::Rr,
+            poll: false,
+            receive: 0,
+        };
+        let reject = Control::Supervisory {
+            function: Supervisory::Srej,
+            poll: true,
+            receive: 3,
+        };
+        carries(&rt, &frame(information, &FILL[..1]))?;
+        carries(&rt, &frame(ready, &[]))?;
+        carries(&rt, &frame(reject, &[0x00]))
     }
 
     #[test]
     fn information(rt: HostRuntime) -> Result<(), Fail> {
         carries(&rt, &unnumbered(Unnumbered::Ui, &[]))?;
         carries(&rt, &unnumbered(Unnumbered::Ui, &FILL[..1]))?;
-        carries(&rt, &unnumbered(Unnumbered::Ui, &FILL[..2052]))?;
-        refuses(&rt, &unnumbered(Unnumbered::Ui, &FILL), 42)?;
-        refuses(&rt, &unnumbered(Unnumbered::Ua, &FILL[..1]), 41)?;
-        refuses(&rt, &unnumbered(Unnumbered::Frmr, &FILL), 41)?;
-        refuses(
-            &rt,
-            &frame(
-                Control::Information {
-                    send: 8,
-                    poll: false,
-                    receive: 0,
-                },
-                &FILL,
-            ),
-            41,
-        )?;
-        refuses(
-            &rt,
-            &frame(
-                Control::Supervisory {
-                    function: Supervisory::Rr,
-                    poll: false,
-                    receive: 8,
-                },
-                &[],
-            ),
-            41,
-        )
+        carries(&rt, &unnumbered(Unnumbered::Ui, &FILL[..2052]))
+    }
+
+    #[test]
+    fn refused(rt: HostRuntime) {
+        let send_8 = Control::Information {
+            send: 8,
+            poll: false,
+            receive: 0,
+        };
+        let receive_8 = Control::Supervisory {
+            function: Supervisory::Rr,
+            poll: false,
+            receive: 8,
+        };
+        refuses(&rt, &unnumbered(Unnumbered::Ui, &FILL), WriteError::TooLong);
+        // unsuited comes before too long
+        for frame in [
+            unnumbered(Unnumbered::Ua, &FILL[..1]),
+            unnumbered(Unnumbered::Frmr, &FILL),
+            frame(send_8, &FILL),
+            frame(receive_8, &[]),
+        ] {
+            refuses(&rt, &frame, WriteError::Unsuited);
+        }
     }
 
     // Check sequences F84Fh and FF77h: the bits before the closing flag end in five ones, so a zero is stuffed behind the last, and in eight.
@@ -200,23 +141,14 @@ mod tests {
     fn room(rt: HostRuntime) -> Result<(), Fail> {
         let ua = unnumbered(Unnumbered::Ua, &[]);
         let mut exact = [b'x'; 121];
+        let mut sink = TextSink::new(&mut exact);
+        let bits = write_frame(&mut sink, &ua)?;
+        assert!(rt; bits >= 104 && sink.count() == bits);
+        assert_eq!(rt; 121usize.checked_sub(bits), Some(sink.room()));
         let mut short = [b'x'; 120];
-        {
-            let mut sink = TextSink::new(&mut exact);
-            match write_frame(&mut sink, &ua) {
-                Ok(n) => assert!(rt;
-                    n >= 104 && sink.count() == n && sink.room() == 121 - n.min(121)
-                ),
-                Err(_) => return Err(Fail::new("not written")),
-            }
-        }
-        {
-            let mut sink = TextSink::new(&mut short);
-            match write_frame(&mut sink, &ua) {
-                Ok(_) => return Err(Fail::new("written")),
-                Err(e) => assert!(rt; e.number() == 43 && sink.room() == 120),
-            }
-        }
+        let mut sink = TextSink::new(&mut short);
+        assert_eq!(rt; write_frame(&mut sink, &ua), Err(WriteError::NoRoom));
+        assert_eq!(rt; sink.room(), 120);
         assert!(rt; short == [b'x'; 120]);
         Ok(())
     }

@@ -1,17 +1,20 @@
 -- A reader's answers are those of the reading of its whole field.
 use Rattle.std.proofs.Common.{◌≡◌, ℕ, suc, ◌<◌, ◌≤◌, ◌⊎◌, List, [], ◌∷◌, ◌++◌, length, take, drop, Some, None, Ok, Err, Option, sym, refl, ap, ◌∙◌, subst, inl, inr, append_assoc, arith, length-append}
 use Rattle.std.proofs.lemmas.List.{drop_at, length_push}
+use Rattle.std.proofs.Math.Bridge.{le_prop}
+use mathlib.Core.Logic.{∥∥₁_elim}
 use Rattle.faults.specs.declared.ExchangeFault.{ExchangeFault}
 use Rattle.records.specs.Values.{shape}
 use Rattle.records.specs.Records.{Records}
-use Rattle.xid.specs.Fields.{Param, Beginning, parameters}
-use Rattle.xid.specs.Reading.{Reading}
-use Rattle.xid.specs.Stands.{Stands}
+use Rattle.xid.specs.Fields.{Param, Beginning, begun, parameters}
+use Rattle.xid.specs.Reading.{place, Reading}
+use Rattle.xid.specs.Stands.{unread, Stands}
 use Rattle.xid.specs.Answers.{shown, Given}
 use Rattle.xid.specs.Moving.{Next}
 use Rattle.xid.specs.declared.cursor.Cursor.{Cursor}
 use Rattle.xid.specs.declared.parameter.Parameter.{Parameter}
 use Rattle.xid.specs.declared.reader.Reader.{Reader}
+use Rattle.xid.proofs.Beginnings.{placed}
 use Rattle.xid.proofs.Readings.{reading_is_one, goes_on}
 
 -- what `Given` says of the answers
@@ -28,7 +31,7 @@ exactly : (os : List ℕ) (b c : Beginning) (at : Cursor) (p : Param) (n : ℕ) 
     → n ≡ length (parameters b)
 exactly os b c at p n stands more (inl is) = is
 exactly os b c at p n stands more (inr (least, (stop, reading))) =
-    let on = goes_on os c at.rest.now (parameters b) stop stands.begins reading in
+    let on = goes_on os c (unread at) (parameters b) stop stands.begins reading in
     absurd (omega (arith, ap length on.1, length-append (parameters c) on.0, ap length more, length_push (parameters b) p))
 
 module _ (r : Reader) where
@@ -68,32 +71,46 @@ module _ (r : Reader) where
   -- the reader goes on behind a parameter
   module _ (p : Parameter) (s : Reader) (field : s.field.now ≡ r.field.now)
       (moves : (b : Beginning) → Stands r.field.now r.cursor b
-      → (c : Beginning) × (Stands r.field.now s.cursor c × (parameters c ≡ parameters b ++ (shown p ∷ []))
+      → (c : Beginning) × (Stands r.field.now s.cursor c × (place b < place c) × (parameters c ≡ parameters b ++ (shown p ∷ []))
       × Records (shape p.group p.identifier) p.value.now p.record)) where
     given-on : (n : ℕ) → Given r n → Given s (suc n)
     given-on n g =
         let on = moves g.beginning g.stands in
-        let is = exactly r.field.now g.beginning on.0 s.cursor (shown p) n on.1.0 on.1.1 g.answered in
+        let is = exactly r.field.now g.beginning on.0 s.cursor (shown p) n on.1.0 on.1.2 g.answered in
         record {
           beginning = on.0;
           stands = subst (λ os. Stands os s.cursor on.0) (sym field) on.1.0;
-          answered = inl (omega (arith, ap length on.1.1, length_push (parameters g.beginning) (shown p)));
+          answered = inl (omega (arith, ap length on.1.2, length_push (parameters g.beginning) (shown p)));
         }
 
     answers-on : (n : ℕ) → Given r n → (ps : List Param) (stop : Option ExchangeFault) → Reading r.field.now ps stop → take 1 (drop n ps) ≡ shown p ∷ []
     answers-on n g ps stop reading =
         let on = moves g.beginning g.stands in
-        let is = exactly r.field.now g.beginning on.0 s.cursor (shown p) n on.1.0 on.1.1 g.answered in
-        let more = goes_on r.field.now on.0 s.cursor.rest.now ps stop on.1.0.begins reading in
-        let all = more.1 ∙ ap (λ qs. qs ++ more.0) on.1.1 ∙ append_assoc (parameters g.beginning) (shown p ∷ []) more.0 in
+        let is = exactly r.field.now g.beginning on.0 s.cursor (shown p) n on.1.0 on.1.2 g.answered in
+        let more = goes_on r.field.now on.0 (unread s.cursor) ps stop on.1.0.begins reading in
+        let all = more.1 ∙ ap (λ qs. qs ++ more.0) on.1.2 ∙ append_assoc (parameters g.beginning) (shown p ∷ []) more.0 in
         ap (λ qs. take 1 (drop n qs)) all ∙ ap (take 1) (drop_at (parameters g.beginning) (shown p ∷ more.0) n (sym is))
 
-    pub next-on : length s.cursor.rest.now < length r.cursor.rest.now → Next r (Ok (Some p)) s
-    next-on shorter =
+    shorter-on : length (unread s.cursor) < length (unread r.cursor)
+    shorter-on =
+        ∥∥₁_elim r.stands le_prop (λ (b, stands).
+        let on = moves b stands in
+        omega (
+          arith,
+          placed r.field.now b (unread r.cursor) stands.begins,
+          placed r.field.now on.0 (unread s.cursor) on.1.0.begins,
+          ap length stands.begins.octets,
+          ap length on.1.0.begins.octets,
+          length-append (begun b) (unread r.cursor),
+          length-append (begun on.0) (unread s.cursor),
+        ))
+
+    pub next-on : Next r (Ok (Some p)) s
+    next-on =
         record {
           field = field;
-          moved = λ b stands. let on = moves b stands in (on.0, (on.1.0, on.1.1));
-          shorter = λ q is. shorter;
+          moved = λ b stands. let on = moves b stands in (on.0, (on.1.0, on.1.2));
+          shorter = λ q is. shorter-on;
           given = given-on;
-          answers = λ n g ps stop reading. (answers-on n g ps stop reading, (moves g.beginning g.stands).1.2);
+          answers = λ n g ps stop reading. (answers-on n g ps stop reading, (moves g.beginning g.stands).1.3);
         }

@@ -3,7 +3,6 @@ pub mod Beginnings
 pub mod Counting
 pub mod FieldEnds
 pub mod FieldFronts
-pub mod Headers
 pub mod Moves
 pub mod Params
 pub mod Readings

@@ -4,7 +4,6 @@ use lib.Seq.{take-append_seam}
 use Rattle.std.proofs.lemmas.List.{append_cancel_left}
 use Rattle.register.specs.Groups.{group_octet}
 use Rattle.register.specs.declared.Group.{Group}
-use Rattle.register.specs.declared.Group.TheVariants.{Public, Private}
 use Rattle.xid.specs.Fields.{Param, param_octets, Beginning, nothing, leading, header, parameter, begun, left, last_group, Whole, WellFormed}
 
 -- how many pieces a beginning has
@@ -26,29 +25,18 @@ parameter_octets b p s = append_assoc (begun b) (param_octets p) s
 
 -- nothing of a whole group is still to come
 pub whole_left : (b : Beginning) → Whole b → left b ≡ 0
-whole_left nothing w = absurd w
-whole_left leading w = refl
-whole_left (header b g n) w = w
-whole_left (parameter b p) w = omega arith
+whole_left b w = grind arith
 
 -- a header has the leading octet before it, and a parameter has a header before it
 whole_pieces : (b : Beginning) → Whole b → 1 ≤ pieces b
-whole_pieces nothing w = absurd w
-whole_pieces leading w = omega arith
-whole_pieces (header b g n) w = omega arith
-whole_pieces (parameter b p) w = omega arith
+whole_pieces b w = grind arith
 
 group_pieces : (b : Beginning) (g : Group) → last_group b ≡ Some g → 1 ≤ pieces b
-group_pieces nothing g e = let z : ◌≡◌ {A = ℕ} 0 1 = cc in omega arith
-group_pieces leading g e = omega arith
-group_pieces (header b h n) g e = omega arith
-group_pieces (parameter b p) g e = omega arith
+group_pieces nothing g e = grind arith
+group_pieces b g e = omega arith
 
 pub same_group : (g h : Group) → group_octet g ≡ group_octet h → g ≡ h
-same_group Public Public e = refl
-same_group Public Private e = absurd (omega arith)
-same_group Private Public e = absurd (omega arith)
-same_group Private Private e = refl
+same_group g h e = grind arith
 
 -- the same octets give the same header and the same parameter
 same-header : (g h : Group) (n m : ℕ) (r s : List ℕ) → headed g n r ≡ headed h m s → (g ≡ h) × (n ≡ m)
@@ -72,15 +60,7 @@ same_parameter p q r s g e =
 
 pub same_beginning : (b c : Beginning) (r s : List ℕ) → pieces b ≡ pieces c → WellFormed b → WellFormed c → begun b ++ r ≡ begun c ++ s → b ≡ c
 same_beginning nothing nothing r s k f h e = refl
-same_beginning nothing leading r s k f h e = absurd (omega arith)
-same_beginning nothing (header c g n) r s k f h e = absurd (omega arith)
-same_beginning nothing (parameter c p) r s k f h e = absurd (omega arith)
-same_beginning leading nothing r s k f h e = absurd (omega arith)
 same_beginning leading leading r s k f h e = refl
-same_beginning leading (header c g n) r s k f h e = absurd (omega (arith, whole_pieces c h.1))
-same_beginning leading (parameter c p) r s k f h e = absurd (omega (arith, group_pieces c p.group h.1))
-same_beginning (header b g n) nothing r s k f h e = absurd (omega arith)
-same_beginning (header b g n) leading r s k f h e = absurd (omega (arith, whole_pieces b f.1))
 same_beginning (header b g n) (header c g' n') r s k f h e =
     let o : begun b ++ headed g n r ≡ begun c ++ headed g' n' s = sym (header_octets b g n r) ∙ e ∙ header_octets c g' n' s in
     let i : b ≡ c = same_beginning b c (headed g n r) (headed g' n' s) (omega arith) f.0 h.0 o in
@@ -91,8 +71,6 @@ same_beginning (header b g n) (parameter c p) r s k f h e =
     let i : b ≡ c = same_beginning b c (headed g n r) (param_octets p ++ s) (omega arith) f.0 h.0 o in
     let l : left b ≡ left c = ap left i in
     absurd (omega (arith, whole_left b f.1, h.2))
-same_beginning (parameter b p) nothing r s k f h e = absurd (omega arith)
-same_beginning (parameter b p) leading r s k f h e = absurd (omega (arith, group_pieces b p.group f.1))
 same_beginning (parameter b p) (header c g n) r s k f h e =
     let o : begun b ++ (param_octets p ++ r) ≡ begun c ++ headed g n s = sym (parameter_octets b p r) ∙ e ∙ header_octets c g n s in
     let i : b ≡ c = same_beginning b c (param_octets p ++ r) (headed g n s) (omega arith) f.0 h.0 o in
@@ -105,3 +83,4 @@ same_beginning (parameter b p) (parameter c q) r s k f h e =
     let g : p.group ≡ q.group = cc (l, f.1, h.1) in
     let t = same_parameter p q r s g (append_cancel_left (begun c) (param_octets p ++ r) (param_octets q ++ s) (cc)) in
     cc (i, t)
+same_beginning b c r s k f h e = absurd (grind (arith, whole_pieces, group_pieces))

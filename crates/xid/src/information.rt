@@ -9,12 +9,11 @@ use frame::{Control, Unnumbered};
 pub fn parameters_of(control: Control, information: &[u8]) -> Result<usize, ExchangeFault>
     ensures { ReadAs control information.now result }
 {
-    if let Control::Unnumbered {
-        function: Unnumbered::Xid,
-        poll: _,
-    } = control
-    {
-        return count_parameters(information);
+    match control {
+        Control::Unnumbered {
+            function: Unnumbered::Xid,
+            ..
+        } => count_parameters(information),
+        _ => Ok(0),
     }
-    Ok(0)
 }

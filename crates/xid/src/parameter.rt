@@ -3,7 +3,7 @@ use records::Record;
 use register::Group;
 
 // A parameter with its value as a part of the field, and what the value says.
-#[derive(Clone, Copy)]
+#[derive(Clone, Copy, PartialEq, Eq, Debug)]
 pub struct Parameter<'a> {
     pub group: Group,
     pub identifier: u8,

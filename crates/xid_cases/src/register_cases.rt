@@ -5,14 +5,9 @@ mod tests {
     use std::process::Abort;
 
     // Of the lengths 0 to 12 and 255, how many are allowed, and the least of them.
-    fn lengths(rt: &impl Abort, group: Group, identifier: u8, count: u32, least: usize) {
-        let mut allowed: u32 = 0;
-        for octets in 0..13 {
-            if allows(group, identifier, octets) {
-                allowed = allowed.wrapping_add(1);
-            }
-        }
-        assert!(rt; allowed == count);
+    fn lengths(rt: &impl Abort, group: Group, identifier: u8, count: usize, least: usize) {
+        let allowed = (0..13).filter(|octets| allows(group, identifier, *octets));
+        assert!(rt; allowed.count() == count);
         assert!(rt; allows(group, identifier, least));
         assert!(rt; least == 0 || !allows(group, identifier, least - 1));
     }

@@ -1,5 +1,5 @@
 use Rattle.std.proofs.Common.{◌≡◌, ◌≤◌, true, [], ◌∷◌, length, arith}
-use Rattle.bits.specs.Packed.{packed_space}
+use Rattle.bits.specs.Memory.{memory_shown}
 use Rattle.frame.specs.Opening.{layout}
 use Rattle.writer.specs.Writing.{foretold}
 use Rattle.reply.specs.Paying.{answer}
@@ -9,6 +9,6 @@ use Rattle.owing.proofs.replied.Goals as goal
 pub unreachable-requires : goal.unreachable-requires
 unfolding foretold
 unreachable-requires c =
-    let room : packed_space c.new-sink.result ≡ 512 = c.new-sink.ensures.space in
-    let enough : foretold (length (layout (answer c.args.debt true (0x82 ∷ [])))) ≤ packed_space c.new-sink.result = omega arith in
-    payable c.args.debt true (0x82 ∷ []) (packed_space c.new-sink.result) c.in-Err.field-0.error (omega arith) enough c.in-Err.ensures.0.0
+    let room : (memory_shown c.new-sink.result).space ≡ 512 = c.new-sink.ensures.space in
+    let enough : foretold (length (layout (answer c.args.debt true (0x82 ∷ [])))) ≤ (memory_shown c.new-sink.result).space = omega arith in
+    payable c.args.debt true (0x82 ∷ []) (memory_shown c.new-sink.result).space c.in-Err.field-0.error (omega arith) enough c.in-Err.ensures.0.0

@@ -2,12 +2,13 @@ ghost use Rattle.std.specs.Prelude.{◌≡◌, true, false, [], ◌∷◌, ◌++
 ghost use Rattle.cutting.specs.Cutting.{Bits};
 ghost use Rattle.receiver.specs.declared.record.State.TheVariants.{Stretch};
 ghost use Rattle.receiver.specs.Stands.{Behind, Inside};
-ghost use Rattle.receiver.specs.Hearing.{HasHeard, Hears, VerdictIfAny, DueNow, verdict_if_any};
+ghost use Rattle.receiver.specs.Hearing.{HasHeard, Tells, DueNow, verdict_if_any};
 ghost use Rattle.receiver.specs.Listening.{Listens};
 
 use crate::answer::{Answer, Heard, ListenError};
 use crate::record::{Receiver, State};
 use crate::store::Store;
+use crate::verdict::Verdict;
 use bits::source::BitSource;
 use cutting::Fault;
 
@@ -20,8 +21,6 @@ impl Receiver {
     {
         Receiver {
             state: State::Idle,
-            ones: 0,
-            left_out: false,
             store: Store::new(),
         }
     }
@@ -42,69 +41,60 @@ impl Receiver {
     ) -> Result<Heard, ListenError>
         ensures refuses { is_ok result ≡ nat_le 2061 (length buffer.old) }
         ensures answers { MatchResult result
-            (λ h. Listens (HasHeard self.old) (HasHeard self.new) (S.BitSource.waiting source.old) (S.BitSource.waiting source.new) allowance h.taken buffer.old buffer.new h.answer)
+            (λ h. Listens (HasHeard self.old) (HasHeard self.new) (S.waiting source.old) (S.waiting source.new) allowance h.taken buffer.old buffer.new h.answer)
             (λ _. (self.new ≡ self.old) × (source.new ≡ source.old) × (buffer.new ≡ buffer.old)) }
     {
         if buffer.len() < MOST_OCTETS {
             return Err(ListenError::ShortBuffer);
         }
-        let mut taken = 0;
-        while taken < allowance {
-            match source.take() {
-                None => return Ok(Heard {
+        for taken in 0..allowance {
+            let Some(bit) = source.take() else {
+                return Ok(Heard {
                     answer: Answer::Dry,
                     taken,
-                }),
-                Some(bit) => {
-                    taken += 1;
-                    match self.hear(bit) {
-                        None => {}
-                        Some(answer) => {
-                            if let Answer::Frame(n) = answer {
-                                self.store.fill(n, buffer);
-                            }
-                            return Ok(Heard { answer, taken });
-                        }
-                    }
-                }
+                });
+            };
+            if let Some(verdict) = self.hear(bit) {
+                return Ok(Heard {
+                    answer: self.store.answer(verdict, buffer),
+                    taken: taken + 1,
+                });
             }
         }
         Ok(Heard {
             answer: Answer::Paused,
-            taken,
+            taken: allowance,
         })
     }
 
     // One bit more, and the verdict that falls due on it.
-    fn hear(&mut self, bit: bool) -> Option<Answer>
-        ensures verdict { VerdictIfAny result }
-        ensures told { (h : Bits) → HasHeard self.old h → Hears h bit result self.new }
+    fn hear(&mut self, bit: bool) -> Option<Verdict>
+        ensures { Tells self.old bit result self.new }
     {
         match (self.state, bit) {
             (State::Idle, true) => None,
             (State::Idle, false) => {
-                self.state = State::Hunting;
-                self.ones = 0;
+                self.state = State::Hunting { ones: 0 };
                 None
             }
-            (State::Hunting, true) => {
-                if self.ones == 6 {
-                    self.state = State::Idle;
-                } else {
-                    self.ones += 1;
-                }
+            (State::Hunting { ones: 6 }, true) => {
+                self.state = State::Idle;
                 None
             }
-            (State::Hunting, false) => {
-                if self.ones == 6 {
-                    self.begin();
-                } else {
-                    self.ones = 0;
-                }
+            (State::Hunting { ones: 6 }, false) => {
+                self.begin();
                 None
             }
-            (State::Stretch, true) => self.one_in_stretch(),
-            (State::Stretch, false) => self.zero_in_stretch(),
+            (State::Hunting { ones }, true) => {
+                self.state = State::Hunting { ones: ones + 1 };
+                None
+            }
+            (State::Hunting { .. }, false) => {
+                self.state = State::Hunting { ones: 0 };
+                None
+            }
+            (State::Stretch { ones, left_out }, true) => self.one_in_stretch(ones, left_out),
+            (State::Stretch { ones, left_out }, false) => self.zero_in_stretch(ones, left_out),
         }
     }
 
@@ -113,65 +103,70 @@ impl Receiver {
         ensures opened { (h : Bits) → Behind 6 h → HasHeard self.new (h ++ false ∷ []) }
         ensures same { self.new.store.octets ≡ self.old.store.octets }
     {
-        self.state = State::Stretch;
-        self.ones = 0;
-        self.left_out = false;
+        self.state = State::Stretch {
+            ones: 0,
+            left_out: false,
+        };
         self.store.clear();
     }
 
-    fn one_in_stretch(&mut self) -> Option<Answer>
-        requires { self.old.state ≡ Stretch }
-        ensures verdict { VerdictIfAny result }
-        ensures told { (h : Bits) → HasHeard self.old h → Hears h true result self.new }
+    fn one_in_stretch(&mut self, ones: u8, left_out: bool) -> Option<Verdict>
+        requires { self.old.state ≡ Stretch ones left_out }
+        ensures { Tells self.old true result self.new }
     {
-        if self.ones == 6 {
+        if ones == 6 {
             self.state = State::Idle;
             // the six bits are the break's own where nothing stands before them
             if self.store.count() < 6 {
                 None
             } else {
-                Some(Answer::Aborted)
+                Some(Verdict::Aborted)
             }
-        } else if self.ones == 5 {
-            self.ones = 6;
+        } else if ones == 5 {
+            self.state = State::Stretch { ones: 6, left_out };
             None
         } else {
             self.store.push(true);
-            self.ones += 1;
+            self.state = State::Stretch {
+                ones: ones + 1,
+                left_out,
+            };
             None
         }
     }
 
-    fn zero_in_stretch(&mut self) -> Option<Answer>
-        requires { self.old.state ≡ Stretch }
-        ensures verdict { VerdictIfAny result }
-        ensures told { (h : Bits) → HasHeard self.old h → Hears h false result self.new }
+    fn zero_in_stretch(&mut self, ones: u8, left_out: bool) -> Option<Verdict>
+        requires { self.old.state ≡ Stretch ones left_out }
+        ensures { Tells self.old false result self.new }
     {
-        if self.ones == 6 {
-            let verdict = self.closed();
+        if ones == 6 {
+            let verdict = self.closed(left_out);
             self.begin();
             verdict
-        } else if self.ones == 5 {
-            self.ones = 0;
-            self.left_out = true;
+        } else if ones == 5 {
+            self.state = State::Stretch {
+                ones: 0,
+                left_out: true,
+            };
             None
         } else {
-            self.ones = 0;
-            self.left_out = false;
             self.store.push(false);
+            self.state = State::Stretch {
+                ones: 0,
+                left_out: false,
+            };
             None
         }
     }
 
     // The verdict on the stretch that a zero closes now, behind six ones.
-    fn closed(&self) -> Option<Answer>
-        ensures verdict { VerdictIfAny result }
-        ensures told { (h : Bits) → Inside 6 self.now.left_out self.now.store h → DueNow (h ++ false ∷ []) (verdict_if_any result self.now.store.octets) }
+    fn closed(&self, left_out: bool) -> Option<Verdict>
+        ensures { (h : Bits) → Inside 6 left_out self.now.store h → DueNow (h ++ false ∷ []) (verdict_if_any result self.now.store.octets) }
     {
         if self.store.count() <= 6 {
             None
-        } else if self.left_out {
-            Some(Answer::Refused(Fault::MissingZero))
+        } else if left_out {
+            Some(Verdict::Refused(Fault::MissingZero))
         } else {
             Some(self.store.judge())
         }

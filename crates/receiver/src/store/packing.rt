@@ -1,13 +1,16 @@
-ghost use Rattle.std.specs.Prelude.{◌≡◌, ◌+◌, ◌-◌, ◌^◌, ◌<◌, ◌≤◌, [], ◌∷◌, ◌++◌, length, take as front, drop};
-ghost use Rattle.bits.specs.Octets.{low};
-ghost use Rattle.cutting.specs.Cutting.{Bits, removed, Applies};
+ghost use Rattle.std.specs.Prelude.{◌≡◌, ◌-◌, ◌<◌, ◌≤◌, [], ◌∷◌, ◌++◌, length, take as front, Some};
+ghost use Rattle.cutting.specs.Cutting.{Bits, removed, Applies, Judged};
 ghost use Rattle.cutting.specs.declared.Fault.TheVariants.{MissingZero};
-ghost use Rattle.receiver.specs.Answers.{verdict_of};
 ghost use Rattle.receiver.specs.Stands.{Holds};
-ghost use Rattle.receiver.specs.Hearing.{IsVerdict, Judges};
+ghost use Rattle.receiver.specs.Answers.{verdict_of};
+ghost use Rattle.receiver.specs.Hearing.{meant};
+ghost use Rattle.receiver.specs.Listening.{Fills};
 
 use crate::answer::Answer;
 use crate::store::{MOST_BITS, Store};
+use crate::verdict::{Length, Verdict};
+use bits::coding::Coding;
+use bits::packed_sink::Packed;
 use cutting::Fault;
 use fcs::check_sequence;
 
@@ -17,7 +20,6 @@ impl Store {
     {
         Store {
             count: 0,
-            octet: 0,
             octets: [0; 2063],
         }
     }
@@ -27,7 +29,6 @@ impl Store {
         ensures same { self.new.octets ≡ self.old.octets }
     {
         self.count = 0;
-        self.octet = 0;
     }
 
     pub fn count(&self) -> usize
@@ -36,65 +37,52 @@ impl Store {
         self.count
     }
 
-    // One bit more. Past what a frame can have only the count goes on, to an end.
+    // One bit more. Past what a frame can have there is no place for it, and only the count goes on, to an end.
     pub fn push(&mut self, bit: bool)
         ensures { (r : Bits) → Holds self.old r → Holds self.new (r ++ bit ∷ []) }
     {
-        if self.count < MOST_BITS {
-            let place = self.count % 8;
-            let octet = with_bit(self.octet, place, bit);
-            if place == 7 {
-                self.octets[self.count / 8] = octet;
-                self.octet = 0;
-                self.count += 1;
-            } else {
-                self.octet = octet;
-                self.count += 1;
-            }
-        } else if self.count < MOST_BITS + 7 {
+        Packed::write(&mut self.octets, self.count, bit);
+        if self.count < MOST_BITS + 7 {
             self.count += 1;
         }
     }
 
-    // Copies the first n octets to the front of the buffer.
-    pub fn fill(&self, n: usize, buffer: &mut [u8])
-        requires { (n ≤ 2061) × (n ≤ length buffer.old) }
-        ensures long { length (front n self.now.octets) ≡ n }
-        ensures after { buffer.new ≡ front n self.now.octets ++ drop n buffer.old }
+    // The answer that hands a verdict out; a frame's octets go to the front of the buffer.
+    pub fn answer(&self, verdict: Verdict, buffer: &mut [u8]) -> Answer
+        requires { 2061 ≤ length buffer.old }
+        ensures same { verdict_of result buffer.new ≡ Some (meant verdict self.now.octets) }
+        ensures fills { Fills result buffer.old buffer.new }
     {
-        buffer[0..n].copy_from_slice(&self.octets[0..n]);
-    }
-
-    // The verdict on what is held but for the last six bits, which are the closing flag's.
-    pub fn judge(&self) -> Answer
-        requires { 6 < self.now.count }
-        ensures verdict { IsVerdict result }
-        ensures told { (x held : Bits) → (Applies MissingZero x → ⊥) → Holds self.now held → removed x ≡ front (length held - 6) held → Judges x (verdict_of result self.now.octets) }
-    {
-        let bits = self.count - 6;
-        if bits > MOST_BITS {
-            Answer::Refused(Fault::TooLong)
-        } else if bits % 8 != 0 {
-            Answer::Refused(Fault::NotOctets)
-        } else if bits < 88 {
-            Answer::Refused(Fault::TooShort)
-        } else {
-            let end = bits / 8 - 2;
-            let sequence = check_sequence(&self.octets[0..end]);
-            let [low, high] = sequence.to_le_bytes();
-            if self.octets[end] == low && self.octets[end + 1] == high {
-                Answer::Frame(end)
-            } else {
-                Answer::Refused(Fault::WrongSequence)
+        match verdict {
+            Verdict::Aborted => Answer::Aborted,
+            Verdict::Refused(fault) => Answer::Refused(fault),
+            Verdict::Frame(Length { octets }) => {
+                buffer[0..octets].copy_from_slice(&self.octets[0..octets]);
+                Answer::Frame(octets)
             }
         }
     }
-}
 
-fn with_bit(octet: u8, place: usize, bit: bool) -> u8
-    requires { (place < 8) × (octet < 2 ^ place) }
-    ensures below { result < 2 ^ (place + 1) }
-    ensures bits { low (place + 1) result ≡ low place octet ++ bit ∷ [] }
-{
-    if bit { octet + (1 << place) } else { octet }
+    // The verdict on what is held but for the last six bits, which are the closing flag's.
+    pub fn judge(&self) -> Verdict
+        requires { 6 < self.now.count }
+        ensures { (x held : Bits) → (Applies MissingZero x → ⊥) → Holds self.now held → removed x ≡ front (length held - 6) held → Judged x (meant result self.now.octets) }
+    {
+        let bits = self.count - 6;
+        if bits > MOST_BITS {
+            Verdict::Refused(Fault::TooLong)
+        } else if bits % 8 != 0 {
+            Verdict::Refused(Fault::NotOctets)
+        } else if bits < 88 {
+            Verdict::Refused(Fault::TooShort)
+        } else {
+            let end = bits / 8 - 2;
+            let sequence = check_sequence(&self.octets[0..end]);
+            if self.octets[end..end + 2] == sequence.to_le_bytes()[..] {
+                Verdict::Frame(Length { octets: end })
+            } else {
+                Verdict::Refused(Fault::WrongSequence)
+            }
+        }
+    }
 }

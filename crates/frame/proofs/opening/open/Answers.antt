@@ -10,26 +10,26 @@ returns-in-Some-wrong_mark c =
     first-source-mark c.args.octets.now (omega (arith, ltb-false)) (omega arith)
     c.in_default-wrong_mark.ensures c.in-Some-wrong_mark.place c.in-Some-wrong_mark.ensures
 
-pub returns-in_err-source-in-len9-up : goal.returns-in_err-source-in-len9-up
-returns-in_err-source-in-len9-up c =
-    let p = err_from_is_err_and c.from_residual-in_err-source-in-len9-up.result c.from_residual-in_err-source-in-len9-up.ensures.1 in
-    let h = c.in_err-source-in-len9-up.ensures in
+pub returns-in_err-source : goal.returns-in_err-source
+returns-in_err-source c =
+    let p = err_from_is_err_and c.from_residual-in_err-source.result c.from_residual-in_err-source.ensures.1 in
+    let h = c.in_err-source.ensures in
     rw (p.1, p.2, h.1)
     (first-source-type c.args.octets.now (omega (arith, ltb-false)) (omega arith)
-    c.in_ok-destination-in-len9-up.destination c.in_ok-destination-in-len9-up.ensures c.in_default-wrong_mark-2.ensures h.0)
+    c.in_ok-destination.destination c.in_ok-destination.ensures c.in_default-wrong_mark-2.ensures h.0)
 
-pub returns-in_err-control-in-len9-up : goal.returns-in_err-control-in-len9-up
-returns-in_err-control-in-len9-up c =
-    let p = err_from_is_err_and c.from_residual-in_err-control-in-len9-up.result c.from_residual-in_err-control-in-len9-up.ensures.1 in
+pub returns-in_err-control : goal.returns-in_err-control
+returns-in_err-control c =
+    let p = err_from_is_err_and c.from_residual-in_err-control.result c.from_residual-in_err-control.ensures.1 in
     rw (p.1, p.2)
     (first-at-control c.args.octets.now (omega (arith, ltb-false)) (omega arith)
-    c.in_ok-destination-in-len9-up.destination c.in_ok-destination-in-len9-up.ensures
-    c.in_ok-source-in-len9-up.source c.in_ok-source-in-len9-up.ensures
-    c.in_err-control-in-len9-up.field-0.0 c.in_err-control-in-len9-up.ensures)
+    c.in_ok-destination.destination c.in_ok-destination.ensures
+    c.in_ok-source.source c.in_ok-source.ensures
+    c.in_err-control.field-0.0 c.in_err-control.ensures)
 
-pub returns-in_ok-control-in-len9-up : goal.returns-in_ok-control-in-len9-up
-returns-in_ok-control-in-len9-up c =
+pub returns : goal.returns
+returns c =
     read_is_frame c.args.octets.now (omega (arith, ltb-false)) (omega arith) (λ i. omega (arith, c.type_inv.octets i))
-    c.in_ok-destination-in-len9-up.destination c.in_ok-source-in-len9-up.source
-    c.in_ok-destination-in-len9-up.ensures c.in_ok-source-in-len9-up.ensures
-    c.in_ok-control-in-len9-up.control c.in_ok-control-in-len9-up.ensures
+    c.in_ok-destination.destination c.in_ok-source.source
+    c.in_ok-destination.ensures c.in_ok-source.ensures
+    c.in_ok-control.control c.in_ok-control.ensures

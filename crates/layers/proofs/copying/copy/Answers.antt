@@ -10,7 +10,7 @@ loop-copied-preserved g c =
     let long = length_push i.0 b in (
       i.0 ++ b ∷ [],
       i.1 ∙ ap (λ l. i.0 ++ l) c.in-Some.ensures ∙ sym (append_assoc i.0 (b ∷ []) (g.S.BitSource.waiting c.take.new.self)),
-      put.0 ∙ ap (λ l. l ++ b ∷ []) i.2 ∙ append_assoc (g.K.BitSink.held c.args.sink.now) i.0 (b ∷ []),
+      put.0 ∙ ap (λ l. l ++ b ∷ []) i.2 ∙ append_assoc ((g.K.BitSink.shown c.args.sink.now).held) i.0 (b ∷ []),
       omega (arith, i.3, put.1, long),
       omega (arith, i.4, long),
     )

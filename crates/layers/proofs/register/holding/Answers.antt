@@ -1,36 +1,54 @@
-use Rattle.std.proofs.Common.{◌≡◌, ℕ, ◌+◌, ◌-◌, ◌*◌, ◌^◌, ◌<◌, Bool, false, eqb, List, length, get_or, drop, sym, ap, ◌∙◌, subst, pow-suc, add-one, arith, rules}
-use Rattle.std.proofs.lemmas.List.{drop_all}
+use Rattle.std.proofs.Common.{◌≡◌, ℕ, ◌^◌, ◌<◌, ◌≤◌, Bool, true, false, eqb, List, [], ◌∷◌, ◌++◌, length, sym, refl, ap, ◌∙◌, subst, append_assoc, pow-suc, length-append, arith, rules}
+use mir.Val.{bool_byte}
+use Rattle.std.proofs.Math.Pow.{pow_mono}
+use Rattle.std.proofs.lemmas.List.{nil_from_length, length_push}
 use Rattle.bits.specs.Octets.{low}
-use Rattle.layers.proofs.Registers.{hold_more}
+use Rattle.bits.proofs.Low.{low_double}
 use Rattle.layers.proofs.register.holding.Goals as goal
-use Rattle.layers.proofs.register.holding.Goals.{then-bits-i, else-bits-i}
 
-plus_zero : (n : ℕ) → 2 * n ≡ 2 * n + 0
-plus_zero n = omega arith
+a_bit : (b : Bool) → (bool_byte b < 2) × (eqb (bool_byte b) 1 ≡ b)
+a_bit true = (omega arith, refl)
+a_bit false = (omega arith, refl)
 
-held_more : (bits : List Bool) (i old b new : ℕ) → length bits ≡ 15 → i < 15 → b < 2 → eqb b 1 ≡ get_or bits (14 - i) false
-    → (low i old ≡ drop (15 - i) bits) × (old < 2 ^ i) → new ≡ 2 * old + b
-    → (low (i + 1) new ≡ drop (15 - (i + 1)) bits) × (new < 2 ^ (i + 1))
-held_more bits i old b new long few small is held same =
-    let double = pow-suc 2 i in
-    let next = add-one i in (
-      ap (low (i + 1)) same ∙ hold_more bits i old b long few small is held.0,
-      subst (λ k. new < 2 ^ k) (sym next) (omega (arith, held.1)),
+-- as long as a bit is to come, the register is below 2 ^ 14
+below : (bits rest rest' done : List Bool) (b : Bool) (r : ℕ) → length bits ≡ 15 → bits ≡ rest ++ done → rest ≡ rest' ++ b ∷ [] → r < 2 ^ length done
+    → r < 16384
+below bits rest rest' done b r long is one small =
+    let few : length done ≤ 14 = omega (arith, ap length is, length-append rest done, ap length one, length_push rest' b) in
+    omega (arith, small, pow_mono {i = length done} {j = 14} few)
+
+pub loop-bit-init : goal.loop-bit-init
+unfolding low
+loop-bit-init c = ([], search rules, refl, omega arith)
+
+pub overflow_mul-register : goal.overflow_mul-register
+overflow_mul-register c =
+    let i = c.loop-bit.invariant in
+    let small = below c.args.bits.now c.loop-bit.bit-iterator.iter.rest.now c.next.new.self.iter.rest.now i.0 c.in-Some.bit.now c.loop-bit.register c.told-bits i.1 c.in-Some.ensures.steps i.3 in
+    omega (arith, small)
+
+pub overflow_add-register : goal.overflow_add-register
+overflow_add-register c =
+    let i = c.loop-bit.invariant in
+    let small = below c.args.bits.now c.loop-bit.bit-iterator.iter.rest.now c.next.new.self.iter.rest.now i.0 c.in-Some.bit.now c.loop-bit.register c.told-bits i.1 c.in-Some.ensures.steps i.3 in
+    let one : c.from.result < 2 = subst (λ (n : ℕ). n < 2) (sym c.from.ensures) (a_bit c.in-Some.bit.now).0 in
+    omega (arith, small, one)
+
+pub loop-bit-preserved : goal.loop-bit-preserved
+loop-bit-preserved c =
+    let i = c.loop-bit.invariant in
+    let b = c.in-Some.bit.now in
+    let n = c.from.result in
+    let one : n < 2 = subst (λ (n : ℕ). n < 2) (sym c.from.ensures) (a_bit b).0 in
+    let is : eqb n 1 ≡ b = ap (λ k. eqb k 1) c.from.ensures ∙ (a_bit b).1 in (
+      b ∷ i.0,
+      i.1 ∙ ap (λ l. l ++ i.0) c.in-Some.ensures.steps ∙ append_assoc c.next.new.self.iter.rest.now (b ∷ []) i.0,
+      low_double (length i.0) c.loop-bit.register n one ∙ ap (λ x. x ∷ low (length i.0) c.loop-bit.register) is ∙ ap (λ l. b ∷ l) i.2,
+      omega (arith, i.3, one, pow-suc 2 (length i.0)),
     )
 
-pub loop-i-init : goal.loop-i-init
-unfolding low
-loop-i-init c =
-    let long : length c.args.bits.now ≡ 15 = search rules in
-    (sym (drop_all 15 c.args.bits.now (omega arith)), omega arith)
-
-pub loop-i-preserved : goal.loop-i-preserved
-loop-i-preserved c =
-    let bits = c.args.bits.now in
-    let i = c.loop-i.i in
-    let old = c.loop-i.register in
-    let long : length bits ≡ 15 = search rules in
-    elim c.if-bits-i.branch [
-      | then-bits-i w ↦ held_more bits i old 1 c.if-bits-i.register long c.loop-i-test.true (omega arith) (sym w.if-bits-i.true) c.loop-i.invariant w.register-is
-      | else-bits-i w ↦ held_more bits i old 0 c.if-bits-i.register long c.loop-i-test.true (omega arith) (sym w.if-bits-i.false) c.loop-i.invariant (w.register-is ∙ plus_zero old)
-    ]
+pub returns : goal.returns
+returns c =
+    let i = c.loop-bit.invariant in
+    let all : c.args.bits.now ≡ i.0 = i.1 ∙ ap (λ l. l ++ i.0) (nil_from_length c.loop-bit.bit-iterator.iter.rest.now (search rules)) in
+    ap (λ n. low n c.loop-bit.register) (sym c.told-bits) ∙ subst (λ l. low (length l) c.loop-bit.register ≡ l) (sym all) i.2

@@ -1,5 +1,5 @@
 use Rattle.std.proofs.Common.{◌≡◌, ◌≤◌, true, [], ◌∷◌, length, arith, rules}
-use Rattle.layers.specs.Pile.{pile_space}
+use Rattle.layers.specs.Pile.{pile_shown}
 use Rattle.frame.specs.Opening.{layout}
 use Rattle.writer.specs.Writing.{foretold}
 use Rattle.reply.specs.Paying.{answer}
@@ -10,6 +10,6 @@ pub unreachable-requires : goal.unreachable-requires
 unfolding foretold
 unreachable-requires c =
     let held : length c.args.memory.now ≡ 64 = search rules in
-    let room : 512 ≤ pile_space c.pile_sink-sink.result = omega (arith, c.pile_sink-sink.ensures.space) in
-    let enough : foretold (length (layout (answer c.args.debt true (0x82 ∷ [])))) ≤ pile_space c.pile_sink-sink.result = omega arith in
-    payable c.args.debt true (0x82 ∷ []) (pile_space c.pile_sink-sink.result) c.in-Err.field-0.error (omega arith) enough c.in-Err.ensures.0.0
+    let room : 512 ≤ (pile_shown c.pile_sink-sink.result).space = omega (arith, c.pile_sink-sink.ensures.space) in
+    let enough : foretold (length (layout (answer c.args.debt true (0x82 ∷ [])))) ≤ (pile_shown c.pile_sink-sink.result).space = omega arith in
+    payable c.args.debt true (0x82 ∷ []) (pile_shown c.pile_sink-sink.result).space c.in-Err.field-0.error (omega arith) enough c.in-Err.ensures.0.0

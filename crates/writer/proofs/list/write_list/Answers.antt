@@ -6,21 +6,18 @@ use Rattle.writer.proofs.list.write_list.Goals as goal
 
 pub loop-index-preserved : goal.loop-index-preserved
 loop-index-preserved g c =
-    list_more g.S.BitSink.held g.S.BitSink.space c.args.orders.now c.args.buffer.now c.loop-index.index c.args.sink.now
-    c.loop-index.sink c.write_order.new.sink c.in-Ok.field-0 _ c.loop-index-test.true c.loop-index.invariant c.in-Ok.ensures
+    let k = g.S.BitSink.shown in
+    list_more c.args.orders.now c.args.buffer.now c.loop-index.index (k c.args.sink.now) (k c.loop-index.sink) (k c.write_order.new.sink) c.in_default.field-0 _
+    c.loop-index-test.true c.loop-index.invariant c.in_default.ensures
 
 pub returns-in-Err : goal.returns-in-Err
 returns-in-Err g c =
-    let k = g.S.BitSink in
-    let w = c.in-Err.ensures in
-    let back =
-    taken_back k.held k.space c.args.orders.now c.args.buffer.now c.loop-index.index c.args.sink.now c.loop-index.sink
-    c.write_order.new.sink c.cut_back.new.self c.count-before.result c.cut_back.result c.loop-index.invariant w.1 w.2
-    c.count-before.ensures c.cut_back.ensures in (
-      list_refused k.held k.space c.args.orders.now c.args.buffer.now c.loop-index.index c.args.sink.now c.loop-index.sink
-          _ c.in-Err.error c.loop-index-test.true c.loop-index.invariant w.0,
-      back.0,
-      back.1,
+    let k = g.S.BitSink.shown in
+    let w = c.in-Err.ensures in (
+      list_refused c.args.orders.now c.args.buffer.now c.loop-index.index (k c.args.sink.now) (k c.loop-index.sink) _ c.in-Err.error
+          c.loop-index-test.true c.loop-index.invariant w.0,
+      taken_back c.args.orders.now c.args.buffer.now c.loop-index.index (k c.args.sink.now) (k c.loop-index.sink) (k c.write_order.new.sink) (k c.cut_back.new.self)
+          c.count-before.result c.cut_back.result c.loop-index.invariant w.1 c.count-before.ensures c.cut_back.ensures,
     )
 
 pub overflow_sub-result : goal.overflow_sub-result
@@ -28,5 +25,6 @@ overflow_sub-result g c = let l = appended_long c.loop-index.invariant.1 in omeg
 
 pub returns : goal.returns
 returns g c =
-    list_all g.S.BitSink.held g.S.BitSink.space c.args.orders.now c.args.buffer.now c.loop-index.index c.args.sink.now
-    c.loop-index.sink _ c.loop-index-test.false (omega (arith, c.count.ensures, c.count-before.ensures)) c.loop-index.invariant
+    let k = g.S.BitSink.shown in
+    list_all c.args.orders.now c.args.buffer.now c.loop-index.index (k c.args.sink.now) (k c.loop-index.sink) _ c.loop-index-test.false
+    (omega (arith, c.count.ensures, c.count-before.ensures)) c.loop-index.invariant

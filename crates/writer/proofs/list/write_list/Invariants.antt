@@ -7,6 +7,6 @@ use Rattle.writer.proofs.list.write_list.Given as goal
 
 abbrev pub invariant-loop-index : goal.invariant-loop-index
 invariant-loop-index g l =
-    AllAccepted l.buffer (g.S.BitSink.space l.initial.sink) (take l.index l.orders)
-    × Appended (put_bits (layouts l.buffer (take l.index l.orders))) (g.S.BitSink.held l.initial.sink) (g.S.BitSink.space l.initial.sink)
-    (length (put_bits (layouts l.buffer (take l.index l.orders)))) (g.S.BitSink.held l.sink) (g.S.BitSink.space l.sink)
+    AllAccepted l.buffer (g.S.BitSink.shown l.initial.sink).space (take l.index l.orders)
+    × Appended (put_bits (layouts l.buffer (take l.index l.orders))) (g.S.BitSink.shown l.initial.sink)
+    (length (put_bits (layouts l.buffer (take l.index l.orders)))) (g.S.BitSink.shown l.sink)

@@ -5,5 +5,5 @@ use Rattle.writer.proofs.put.put_flag.Given as goal
 
 abbrev pub invariant-loop : goal.invariant-loop
 invariant-loop g l =
-    Appended (ones l.counter) (g.S.BitSink.held l.initial.sink) (g.S.BitSink.space l.initial.sink) l.counter
-    (g.S.BitSink.held l.sink) (g.S.BitSink.space l.sink)
+    Appended (ones l.counter) (g.S.BitSink.shown l.initial.sink) l.counter
+    (g.S.BitSink.shown l.sink)

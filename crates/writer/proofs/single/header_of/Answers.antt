@@ -1,11 +1,9 @@
-use Rattle.std.proofs.Common.{arith}
+use Rattle.std.proofs.Common.{arith, rules}
+use Rattle.frame.specs.Addresses.{IsAddress}
 use Rattle.writer.proofs.single.header_of.Goals as goal
 
-pub returns-in-Ok : goal.returns-in-Ok
-returns-in-Ok c =
-    let h = c.in-Ok.ensures in (
-      (c.if-not-suits.ensures, h.0),
-      record { high = omega arith; middle = omega arith; low = omega arith },
-      record { high = omega arith; middle = omega arith; low = omega arith },
-      h.1,
-    )
+pub returns : goal.returns
+returns c =
+    let to : IsAddress c.args.frame.heading.destination = record { high = omega arith; middle = omega arith; low = omega arith } in
+    let from : IsAddress c.args.frame.heading.source = record { high = omega arith; middle = omega arith; low = omega arith } in
+    search (rules, to, from)

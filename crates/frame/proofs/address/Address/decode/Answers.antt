@@ -1,26 +1,20 @@
-use Rattle.std.proofs.Common.{arith, lit<}
-use Rattle.frame.proofs.Words.{laid_marks, joined_laid, read_some, read_none}
-use Rattle.frame.proofs.address.Address.decode.Goals.{then-first-ne0-via-then-first-ne0, then-first-ne0-via-else-first-ne0+then-second-ne0, then-first-ne0-via-else-first-ne0+else-second-ne0+then-third-ne0, then-first-ne0-via-else-first-ne0+else-second-ne0+else-third-ne0+then-fourth-ne1}
+use Rattle.std.proofs.Common.{◌∙◌, sym, arith}
+use Rattle.frame.proofs.Words.{marks_wrong, marks_right, listed_some, listed_none, joined_laid, read_some, read_none}
 use Rattle.frame.proofs.address.Address.decode.Goals as goal
 
-pub returns-then-first-ne0 : goal.returns-then-first-ne0
-returns-then-first-ne0 c s a h e =
-    let marks = laid_marks c.args.octets s a e in
-    elim c.then-first-ne0.branch [
-      | then-first-ne0-via-then-first-ne0 w ↦ w.if-first-ne0.true (marks 0 (lit< tt))
-      | then-first-ne0-via-else-first-ne0+then-second-ne0 w ↦ w.if-second-ne0.true (marks 1 (lit< tt))
-      | then-first-ne0-via-else-first-ne0+else-second-ne0+then-third-ne0 w ↦ w.if-third-ne0.true (marks 2 (lit< tt))
-      | then-first-ne0-via-else-first-ne0+else-second-ne0+else-third-ne0+then-fourth-ne1 w ↦ w.if-fourth-ne1.true (marks 3 (lit< tt))
-    ]
+pub returns-then-is_some : goal.returns-then-is_some
+returns-then-is_some c = marks_wrong c.args.octets c.wrong_mark.result c.wrong_mark.ensures (sym c.is_some.ensures ∙ c.if-is_some.true)
 
-pub returns-in-None : goal.returns-in-None
-returns-in-None c =
-    let laid = joined_laid c.args.octets (omega arith) c.bits_of.ensures c.bits_of-2.ensures c.bits_of-3.ensures c.bits_of-4.ensures
-    c.if-first-ne0.false c.if-second-ne0.false c.if-third-ne0.false c.if-fourth-ne1.false in
-    read_none c.args.octets _ laid (omega arith) c.in-None.ensures
+pub returns-in_err-kind : goal.returns-in_err-kind
+returns-in_err-kind c =
+    let marks = marks_right c.args.octets c.wrong_mark.result c.wrong_mark.ensures (sym c.is_some.ensures ∙ c.if-is_some.false) in
+    let laid = joined_laid c.args.octets (omega arith) c.bits_of.ensures c.bits_of-2.ensures c.bits_of-3.ensures c.bits_of-4.ensures marks in
+    let unlisted = listed_none _ c.try_from.result c.try_from.ensures (sym c.ok.ensures.value ∙ c.in_err-kind.was) in
+    rw c.from_residual.ensures (read_none c.args.octets _ laid (omega arith) (rw c.to_be_bytes.ensures at unlisted))
 
-pub returns-in-Some : goal.returns-in-Some
-returns-in-Some c =
-    let laid = joined_laid c.args.octets (omega arith) c.bits_of.ensures c.bits_of-2.ensures c.bits_of-3.ensures c.bits_of-4.ensures
-    c.if-first-ne0.false c.if-second-ne0.false c.if-third-ne0.false c.if-fourth-ne1.false in
-    read_some c.args.octets _ laid (omega arith) c.in-Some.kind c.in-Some.ensures
+pub returns : goal.returns
+returns c =
+    let marks = marks_right c.args.octets c.wrong_mark.result c.wrong_mark.ensures (sym c.is_some.ensures ∙ c.if-is_some.false) in
+    let laid = joined_laid c.args.octets (omega arith) c.bits_of.ensures c.bits_of-2.ensures c.bits_of-3.ensures c.bits_of-4.ensures marks in
+    let listed = listed_some _ c.try_from.result c.try_from.ensures (sym c.ok.ensures.value ∙ c.in_ok-kind.was) in
+    rw c.to_be_bytes.ensures (read_some c.args.octets _ laid (omega arith) c.in_ok-kind.kind (rw c.to_be_bytes.ensures at listed))

@@ -7,6 +7,6 @@ unfolding xor
 returns g c =
     let s = c.args.self.now in
     let put = c.in_ok-put.ensures in (
-      last_in s.register c.moved_on-self.result c.args.bit (g.S.BitSink.held s.below) (g.S.BitSink.held c.put.new.self) c.moved_on-self.ensures put.0,
+      last_in s.register c.moved_on-self.result c.args.bit ((g.S.BitSink.shown s.below).held) ((g.S.BitSink.shown c.put.new.self).held) c.moved_on-self.ensures put.0,
       put.1,
     )

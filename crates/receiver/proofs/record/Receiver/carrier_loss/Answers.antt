@@ -1,9 +1,8 @@
-use Rattle.std.proofs.Common.{arith}
 use Rattle.receiver.proofs.Turns.{fresh, still_idle}
 use Rattle.receiver.proofs.record.Receiver.carrier_loss.Goals as goal
 
 pub invariant_of-self : goal.invariant_of-self
-invariant_of-self c = record { few = omega arith; heard = still_idle c.args.self.now.ones c.args.self.now.left_out c.args.self.now.store }
+invariant_of-self c = record { heard = still_idle c.args.self.now.store }
 
 pub returns : goal.returns
-returns c = fresh c.args.self.now.ones c.args.self.now.left_out c.args.self.now.store
+returns c = fresh c.args.self.now.store

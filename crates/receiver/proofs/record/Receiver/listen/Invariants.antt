@@ -1,5 +1,5 @@
--- Some bits were taken and counted, within the allowance; the buffer is as it was; nothing fell due in them.
-use Rattle.std.proofs.Common.{◌≡◌, ◌-◌, ◌≤◌, Bool, List, ◌++◌, length}
+-- Some bits were taken and counted; the buffer is as it was; nothing fell due in them.
+use Rattle.std.proofs.Common.{◌≡◌, Bool, List, ◌++◌, length}
 use Rattle.cutting.specs.Cutting.{Bits}
 use Rattle.receiver.specs.Hearing.{HasHeard}
 use Rattle.receiver.specs.Listening.{Still}
@@ -8,9 +8,5 @@ use Rattle.receiver.proofs.record.Receiver.listen.Given as goal
 abbrev pub invariant-loop-taken : goal.invariant-loop-taken
 invariant-loop-taken g l =
     (t : List Bool) × (g.S.BitSource.waiting l.initial.source ≡ t ++ g.S.BitSource.waiting l.source) × (length t ≡ l.taken)
-    × (l.taken ≤ l.allowance)
     × (l.buffer ≡ l.initial.buffer)
     × ((h : Bits) → HasHeard l.initial.self h → HasHeard l.self (h ++ t) × Still (h ++ t) (length h) (length (h ++ t)))
-
-abbrev pub decreases-loop-taken : goal.decreases-loop-taken
-decreases-loop-taken g l = l.allowance - l.taken

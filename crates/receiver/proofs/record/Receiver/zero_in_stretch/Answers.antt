@@ -1,28 +1,36 @@
-use Rattle.std.proofs.Common.{false, [], ◌∷◌, ◌++◌, sym, refl, subst, arith}
+use Rattle.std.proofs.Common.{false, [], ◌∷◌, ◌++◌, refl, sym, ap, subst, ◌∙◌}
+use Rattle.receiver.specs.declared.record.State.TheVariants.{Stretch}
 use Rattle.receiver.specs.Hearing.{DueNow, verdict_if_any}
-use Rattle.receiver.proofs.Turns.{hears, still_heard, inside_six, stretch_left-out, stretch-zero}
+use Rattle.receiver.proofs.Turns.{hears, stood, still_heard, stretch_left-out, stretch-zero}
 use Rattle.receiver.proofs.record.Receiver.zero_in_stretch.Goals as goal
 
+pub returns-then-ones-eq6 : goal.returns-then-ones-eq6
+returns-then-ones-eq6 c = λ h was.
+    let out = c.args.left_out in
+    let inside = stood c.args.self.now (Stretch 6 out) h (c.requires ∙ ap (λ n. Stretch n out) c.if-ones-eq6.true) was in
+    record {
+      heard = c.begin.ensures.opened h inside.tail;
+      due = subst (λ os. DueNow (h ++ false ∷ []) (verdict_if_any c.closed-verdict.result os)) (sym c.begin.ensures.same) (c.closed-verdict.ensures h inside);
+    }
+
 pub invariant_of-self : goal.invariant_of-self
-invariant_of-self c = record { few = omega arith; heard = still_heard c.args.self.now false (λ h was. stretch_left-out c.args.self.now false h was c.requires refl c.if-self-eq5.true) }
+invariant_of-self c =
+    let out = c.args.left_out in
+    record { heard = still_heard c.args.self.now (Stretch 5 out) (c.requires ∙ ap (λ n. Stretch n out) c.if-ones-eq5.true) (λ h. stretch_left-out c.args.self.now.store h out) }
 
-pub returns-then-self-eq5 : goal.returns-then-self-eq5
-returns-then-self-eq5 c = record { verdict = tt; told = λ h was. hears _ (stretch_left-out c.args.self.now false h was c.requires refl c.if-self-eq5.true) }
+pub returns-then-ones-eq5 : goal.returns-then-ones-eq5
+returns-then-ones-eq5 c = λ h was.
+    let out = c.args.left_out in
+    hears _ refl (stretch_left-out c.args.self.now.store h out (stood c.args.self.now (Stretch 5 out) h (c.requires ∙ ap (λ n. Stretch n out) c.if-ones-eq5.true) was))
 
-pub invariant_of-self-else-self-eq5 : goal.invariant_of-self-else-self-eq5
-invariant_of-self-else-self-eq5 c =
-    record { few = omega arith; heard = still_heard c.args.self.now false (λ h was. stretch-zero c.args.self.now false h was c.push.new.self (omega (arith, c.args.self.now.few)) c.push.ensures c.requires refl) }
+pub invariant_of-self-else-ones-eq5 : goal.invariant_of-self-else-ones-eq5
+invariant_of-self-else-ones-eq5 c =
+    let n = c.args.ones in
+    let out = c.args.left_out in
+    record { heard = still_heard c.args.self.now (Stretch n out) c.requires (λ h. stretch-zero c.args.self.now.store h out c.push.new.self n c.if-ones-eq5.false c.if-ones-eq6.false c.push.ensures) }
 
-pub returns-else-self-eq5 : goal.returns-else-self-eq5
-returns-else-self-eq5 c = record { verdict = tt; told = λ h was. hears _ (stretch-zero c.args.self.now false h was c.push.new.self (omega (arith, c.args.self.now.few)) c.push.ensures c.requires refl) }
-
-pub returns-then-self-eq6 : goal.returns-then-self-eq6
-returns-then-self-eq6 c = record {
-  verdict = c.closed-verdict.ensures.verdict;
-  told = λ h was.
-      let i = inside_six c.args.self.now h was c.requires c.if-self-eq6.true in
-      record {
-        heard = c.begin.ensures.opened h i.tail;
-        due = subst (λ os. DueNow (h ++ false ∷ []) (verdict_if_any c.closed-verdict.result os)) (sym c.begin.ensures.same) (c.closed-verdict.ensures.told h i);
-      };
-}
+pub returns-else-ones-eq5 : goal.returns-else-ones-eq5
+returns-else-ones-eq5 c = λ h was.
+    let n = c.args.ones in
+    let out = c.args.left_out in
+    hears _ refl (stretch-zero c.args.self.now.store h out c.push.new.self n c.if-ones-eq5.false c.if-ones-eq6.false c.push.ensures (stood c.args.self.now (Stretch n out) h c.requires was))

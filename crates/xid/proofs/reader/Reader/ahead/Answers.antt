@@ -1,90 +1,64 @@
 -- Reading stops where a move does, and goes on where it does.
-use Rattle.std.proofs.Common.{[], ◌∷◌, ◌++◌, Some, None, Ok, refl, ap, subst, arith}
+use mathlib.Core.Logic.{∥∥₁_elim}
+use Rattle.std.proofs.Math.Bridge.{le_prop}
 use Rattle.std.proofs.lemmas.Result.{err_from_is_err_and}
-use Rattle.xid.specs.Fields.{parameter}
-use Rattle.xid.specs.Answers.{shown}
-use Rattle.xid.specs.Moving.{GroupStep, GroupShorter}
-use Rattle.xid.proofs.Moves.{stops_at, stops-new, led_on, led_shorter, not_new, whole_at, header_on}
+use Rattle.xid.proofs.Moves.{stops-new, on_led, on_still, stops-parameter, goes_over_parameter, stops-group, ends, goes_over-header, fewer}
 use Rattle.xid.proofs.reader.Reader.ahead.Goals as goal
-use Rattle.xid.proofs.reader.Reader.ahead.Goals.{then-at-field+in_ok-at, else-at-field}
+use Rattle.xid.proofs.reader.Reader.ahead.Goals.{then-place-eq0+in_ok-at, else-place-eq0}
 
 pub returns-in_err-at : goal.returns-in_err-at
 returns-in_err-at c =
     let p = err_from_is_err_and c.from_residual.result c.from_residual.ensures.1 in
     let r = c.args.self.now in
-    rw (p.1, p.2)
-    (record { ahead = λ b stands. stops-new r.field.now r.cursor b stands (omega arith) c.in_err-at.field-0.0 c.in_err-at.ensures; shorter = tt })
+    rw (p.1, p.2) (λ b stands. stops-new r.field.now r.cursor b stands c.place.result c.place.ensures c.if-place-eq0.true c.in_err-at.field-0.0 c.in_err-at.ensures)
 
-pub loop-at-init : goal.loop-at-init
-loop-at-init c =
+pub loop-taken-init : goal.loop-taken-init
+loop-taken-init c =
     let r = c.args.self.now in
-    elim c.if-at-field.branch [
-      | then-at-field+in_ok-at w ↦
-          rw w.at-is (
-            λ b stands. led_on r.field.now r.cursor b stands w.if-at-field.true w.in_ok-at.at w.in_ok-at.ensures,
-            omega (arith, led_shorter r.field.now w.in_ok-at.at w.in_ok-at.ensures, w.if-at-field.true),
-          )
-      | else-at-field w ↦ rw w.at-is (λ b stands. (b, (stands, refl, not_new r.field.now r.cursor b stands w.if-at-field.false)), omega arith)
+    λ b stands.
+    elim c.if-place-eq0.branch [
+      | then-place-eq0+in_ok-at w ↦
+          rw w.at-is (on_led r.field.now r.cursor b stands c.place.result c.place.ensures w.if-place-eq0.true w.in_ok-at.at w.in_ok-at.ensures)
+      | else-place-eq0 w ↦ rw w.at-is (on_still r.field.now r.cursor b stands c.place.result c.place.ensures w.if-place-eq0.false)
     ]
-
-pub returns-in_err-begin_group : goal.returns-in_err-begin_group
-returns-in_err-begin_group c =
-    let p = err_from_is_err_and c.from_residual-in_err-begin_group.result c.from_residual-in_err-begin_group.ensures.1 in
-    let r = c.args.self.now in
-    rw (p.1, p.2)
-    (record {
-      ahead = λ b stands.
-          let at = c.loop-at.invariant.0 b stands in
-          stops_at r.field.now c.loop-at.at b at.0 at.1.0 at.1.1 (Some c.in_err-begin_group.field-0.0)
-          (c.in_err-begin_group.ensures.begun at.0 at.1.0 (whole_at r.field.now c.loop-at.at at.0 at.1.0 at.1.2 c.loop-at-test.true));
-      shorter = tt;
-    })
-
-pub returns-in-None : goal.returns-in-None
-returns-in-None c =
-    let r = c.args.self.now in
-    record {
-      ahead = λ b stands.
-          let at = c.loop-at.invariant.0 b stands in
-          let whole = whole_at r.field.now c.loop-at.at at.0 at.1.0 at.1.2 c.loop-at-test.true in
-          stops_at r.field.now c.loop-at.at b at.0 at.1.0 at.1.1 None
-          (whole, subst (λ o. GroupStep r.field.now c.loop-at.at at.0 (Ok o)) c.in-None.is (c.in_ok-begin_group.ensures.begun at.0 at.1.0 whole));
-      shorter = tt;
-    }
-
-pub loop-at-preserved : goal.loop-at-preserved
-loop-at-preserved c =
-    let r = c.args.self.now in
-    let shorter = subst (λ o. GroupShorter c.loop-at.at (Ok o)) c.in-Some.is c.in_ok-begin_group.ensures.shorter in (
-      λ b stands.
-          let at = c.loop-at.invariant.0 b stands in
-          let whole = whole_at r.field.now c.loop-at.at at.0 at.1.0 at.1.2 c.loop-at-test.true in
-          header_on r.field.now c.loop-at.at c.in-Some.begun b at.0 at.1.1
-          (subst (λ o. GroupStep r.field.now c.loop-at.at at.0 (Ok o)) c.in-Some.is (c.in_ok-begin_group.ensures.begun at.0 at.1.0 whole)),
-      omega (arith, c.loop-at.invariant.1),
-    )
 
 pub returns-in_err-taken : goal.returns-in_err-taken
 returns-in_err-taken c =
     let p = err_from_is_err_and c.from_residual-in_err-taken.result c.from_residual-in_err-taken.ensures.1 in
-    let r = c.args.self.now in
     rw (p.1, p.2)
-    (record {
-      ahead = λ b stands.
-          let at = c.loop-at.invariant.0 b stands in
-          stops_at r.field.now c.loop-at.at b at.0 at.1.0 at.1.1 (Some c.in_err-taken.field-0.0)
-          (c.in_err-taken.ensures.taken at.0 at.1.0 (omega (arith, at.1.0.left, c.loop-at-test.false)));
-      shorter = tt;
-    })
+    (λ b stands.
+    stops-parameter c.args.self.now.field.now b c.loop-taken.at (c.loop-taken.invariant b stands) c.place-place.result c.place-place.ensures
+    c.in_err-taken.field-0.0 c.in_err-taken.ensures)
 
-pub returns : goal.returns
-returns c =
-    let h = c.in_ok-taken.ensures in
-    let p = shown c.in_ok-taken.taken.parameter in
-    record {
-      ahead = λ b stands.
-          let at = c.loop-at.invariant.0 b stands in
-          let moved = h.taken at.0 at.1.0 (omega (arith, at.1.0.left, c.loop-at-test.false)) in
-          (parameter at.0 p, (moved.0, ap (λ ps. ps ++ (p ∷ [])) at.1.1, moved.1));
-      shorter = omega (arith, c.loop-at.invariant.1, h.shorter);
-    }
+pub returns-in-Some : goal.returns-in-Some
+returns-in-Some c =
+    λ b stands.
+    goes_over_parameter c.args.self.now.field.now b c.loop-taken.at (c.loop-taken.invariant b stands) c.place-place.result c.place-place.ensures
+    c.in_ok-taken.field-0 c.in_ok-taken.ensures c.in-Some.taken c.in-Some.is
+
+pub returns-in_err-begun : goal.returns-in_err-begun
+returns-in_err-begun c =
+    let p = err_from_is_err_and c.from_residual-in_err-begun.result c.from_residual-in_err-begun.ensures.1 in
+    rw (p.1, p.2)
+    (λ b stands.
+    stops-group c.args.self.now.field.now b c.loop-taken.at (c.loop-taken.invariant b stands) c.place-place.result c.place-place.ensures
+    c.in_ok-taken.field-0 c.in_ok-taken.ensures c.in_default.is c.in_err-begun.field-0.0 c.in_err-begun.ensures)
+
+pub returns-in_default-2 : goal.returns-in_default-2
+returns-in_default-2 c =
+    λ b stands.
+    ends c.args.self.now.field.now b c.loop-taken.at (c.loop-taken.invariant b stands) c.place-place.result c.place-place.ensures
+    c.in_ok-taken.field-0 c.in_ok-taken.ensures c.in_default.is c.in_ok-begun.field-0 c.in_ok-begun.ensures c.in_default-2.is
+
+pub loop-taken-smaller : goal.loop-taken-smaller
+loop-taken-smaller c =
+    ∥∥₁_elim c.args.self.now.stands le_prop
+    (λ (b, stands).
+    fewer c.args.self.now.field.now b c.loop-taken.at (c.loop-taken.invariant b stands) c.place-place.result c.place-place.ensures
+    c.in_ok-taken.field-0 c.in_ok-taken.ensures c.in_default.is c.in_ok-begun.field-0 c.in_ok-begun.ensures c.in-Some-2.begun c.in-Some-2.is)
+
+pub loop-taken-preserved : goal.loop-taken-preserved
+loop-taken-preserved c =
+    λ b stands.
+    goes_over-header c.args.self.now.field.now b c.loop-taken.at (c.loop-taken.invariant b stands) c.place-place.result c.place-place.ensures
+    c.in_ok-taken.field-0 c.in_ok-taken.ensures c.in_default.is c.in_ok-begun.field-0 c.in_ok-begun.ensures c.in-Some-2.begun c.in-Some-2.is
