@@ -1,6 +1,6 @@
 -- What a control's octet tells of the control, and which octets are a control's.
-use Rattle.std.proofs.Common.{◌≡◌, ℕ, ◌+◌, ◌*◌, ◌/◌, ◌%◌, ◌<◌, Bool, true, false, not, cond, eqb, ◌≢◌, sym, refl, ap, ◌∙◌, arith}
-use lib.Bits.{bit_and, and_high}
+use Rattle.std.proofs.Common.{◌≡◌, ℕ, ◌+◌, ◌*◌, ◌/◌, ◌%◌, ◌<◌, Bool, true, false, cond, eqb, ◌≢◌, sym, refl, ap, ◌∙◌, arith}
+use lib.Bits.{bit_and}
 use Rattle.std.proofs.lemmas.Bool.{eqb-true, agree_below, agree_below_at}
 use Rattle.frame.specs.Controls.{Numbered, supervisory_octet, unnumbered_octet, control_octet}
 use Rattle.frame.specs.declared.control.Control.{Control}
@@ -82,10 +82,7 @@ control_octet_one (U f p) (U g q) n m e =
     let poll = digit_one p q (omega (arith, poll_worth p, poll_worth q, unnumbered_bits f)) in
     cc
 
--- the parts of an octet that reading takes: the poll bit, and the octet without it
-pub poll_read : (o : ℕ) → cond (not (eqb (bit_and o 16) 0)) 1 0 ≡ o / 16 % 2
-poll_read o = let bit = and_high o 1 4 in grind arith
-
+-- an octet without its poll bit
 bare_right : ℕ → Bool
 bare_right o = eqb (bit_and o 239 + o / 16 % 2 * 16) o
 

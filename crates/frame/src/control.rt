@@ -1,5 +1,5 @@
 // The control field: which frame it is, with its numbers.
-ghost use Rattle.std.specs.Prelude.{◌≡◌, if◌then◌else◌};
+ghost use Rattle.std.specs.Prelude.{◌≡◌, ◌/◌, ◌%◌, if◌then◌else◌};
 ghost use Rattle.frame.specs.Controls.{ControlMade, ControlRead, Suited, control_error_number};
 ghost use Rattle.frame.specs.Parts.{UnnumberedRead};
 
@@ -110,28 +110,38 @@ impl TryFrom<u8> for Control {
     ghost try_from_gives = { ControlRead };
 
     fn try_from(octet: u8) -> Result<Control, FrameFault> {
-        let poll = octet & 0x10 != 0;
-        let receive = octet >> 5;
-        match octet & 0x0F {
-            low if low & 0x01 == 0 => Ok(Control::Information {
-                send: low >> 1,
-                poll,
-                receive,
-            }),
-            0x01 => Ok(Control::Supervisory {
-                function: Supervisory::Rr,
-                poll,
-                receive,
-            }),
-            0x0D => Ok(Control::Supervisory {
-                function: Supervisory::Srej,
-                poll,
-                receive,
-            }),
-            _ => {
-                let function = Unnumbered::of_octet(octet & 0xEF)?;
-                Ok(Control::Unnumbered { function, poll })
-            }
+        match octet {
+            polled if polled & 0x10 != 0 => by_low_bits(polled, true),
+            other => by_low_bits(other, false),
+        }
+    }
+}
+
+// The control of an octet whose poll bit is known.
+fn by_low_bits(octet: u8, poll: bool) -> Result<Control, FrameFault>
+    requires { (if poll then 1 else 0) ≡ octet / 16 % 2 }
+    ensures { ControlRead octet result }
+{
+    let receive = octet >> 5;
+    match octet & 0x0F {
+        low if low & 0x01 == 0 => Ok(Control::Information {
+            send: low >> 1,
+            poll,
+            receive,
+        }),
+        0x01 => Ok(Control::Supervisory {
+            function: Supervisory::Rr,
+            poll,
+            receive,
+        }),
+        0x0D => Ok(Control::Supervisory {
+            function: Supervisory::Srej,
+            poll,
+            receive,
+        }),
+        _ => {
+            let function = Unnumbered::of_octet(octet & 0xEF)?;
+            Ok(Control::Unnumbered { function, poll })
         }
     }
 }
