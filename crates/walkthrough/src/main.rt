@@ -16,23 +16,26 @@ pub const GIVEN: [bool; 15] = [
 ];
 
 fn walk(rt: &HostRuntime) -> anyhow::Result<()> {
-    let information = composed(rt.alloc())?;
+    let mut out = [0; 64];
+    let information = composed(&mut out)?;
     println!(rt; "composed {} octets", information.len())?;
-    show_octets(rt, &information)?;
-    let sent = written(rt.alloc(), &information)?;
+    show_octets(rt, information)?;
+    let mut memory = [0; 128];
+    let sent = written(information, &mut memory)?;
     println!(rt;
         "written {} bits: 13 of noise, and the frame twice",
         sent.bits
     )?;
-    show_octets(rt, &sent.octets)?;
-    let caught = heard(rt.alloc(), &sent)?;
+    show_octets(rt, sent.octets)?;
+    let mut buffer = [0; 2061];
+    let caught = heard(sent, &mut buffer)?;
     println!(rt; "carrier lost behind {} bits", caught.lost)?;
     println!(rt;
         "heard a frame of {} octets in {} bits more",
         caught.octets.len(),
         caught.taken
     )?;
-    answer(rt, &caught.octets)
+    answer(rt, caught.octets)
 }
 
 // The row of the display, and a reply where one is owed.

@@ -9,7 +9,6 @@ use frame::{Address, Control, Frame, Heading, Kind, Unnumbered};
 use layers::pile::pile_sink;
 use register::Group;
 use reply::{Debt, reply};
-use std::alloc::Global;
 use writer::write_frame;
 
 // Set identification, latitude −33.9°, longitude 151.2° and 35,000 feet, and two wanted ground stations.
@@ -18,10 +17,10 @@ const VALUES: [u8; 13] = [
 ];
 
 // The bits written, and the octets that they are packed into.
-#[derive(Drop)]
-pub struct Sent {
+#[derive(Clone, Copy)]
+pub struct Sent<'a> {
     pub bits: usize,
-    pub octets: Vec<u8>,
+    pub octets: &'a [u8],
 }
 
 // A parameter of the private group.
@@ -34,16 +33,14 @@ fn private(identifier: u8, place: usize, length: usize) -> Item {
     }
 }
 
-pub fn composed(heap: Global) -> anyhow::Result<Vec<u8>> {
+pub fn composed(out: &mut [u8; 64]) -> anyhow::Result<&[u8]> {
     let items = [
         private(0x00, 0, 1),
         private(0x84, 1, 4),
         private(0x82, 5, 8),
     ];
-    let mut out = vec![in heap; 0u8; 64]?;
-    let length = compose(&items, &VALUES, &mut out).map_err(|_| anyhow!("not composed"))?;
-    out.truncate(length);
-    Ok(out)
+    let length = compose(&items, &VALUES, out).map_err(|_| anyhow!("not composed"))?;
+    Ok(&out[..length])
 }
 
 // An XID command with P at 1, from aircraft 400001h to ground station 1.
@@ -75,11 +72,10 @@ fn command(information: &[u8]) -> Frame<'_> {
 }
 
 // Thirteen bits of noise, and the command twice.
-pub fn written(heap: Global, information: &[u8]) -> anyhow::Result<Sent> {
+pub fn written<'a>(information: &[u8], memory: &'a mut [u8; 128]) -> anyhow::Result<Sent<'a>> {
     let frame = command(information);
-    let mut octets = vec![in heap; 0u8; 128]?;
-    let bits = put(&mut octets, &frame)?;
-    octets.truncate(bits.div_ceil(8));
+    let bits = put(memory, &frame)?;
+    let octets = &memory[..bits.div_ceil(8).min(128)];
     Ok(Sent { bits, octets })
 }
 
