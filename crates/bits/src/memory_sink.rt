@@ -56,7 +56,7 @@ impl<'a, C: Coding> BitSink for MemorySink<'a, C> {
         ensures memory { BitPut (C.places self.old.octets.now) self.old.count (C.written bit) result (C.places self.new.octets.now) }
         ensures lent { self.new.octets.ghost_name ≡ self.old.octets.ghost_name }
     {
-        if self.count == self.end {
+        if self.count >= self.end {
             return Err(SinkError::NoRoom);
         }
         C::write(self.octets, self.count, bit);

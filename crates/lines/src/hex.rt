@@ -9,7 +9,8 @@ pub fn put_hex(octets: &[u8], pairs: &mut [u8])
     ensures { pairs.new ≡ flat_map hex_pair octets.now }
 {
     for (k, octet) in octets.iter().enumerate() {
-        pairs[2 * k..2 * k + 2].copy_from_slice(&[digit(octet / 16), digit(octet % 16)]);
+        pairs[2 * k] = digit(octet / 16);
+        pairs[2 * k + 1] = digit(octet % 16);
     }
 }
 
@@ -17,5 +18,5 @@ fn digit(n: u8) -> u8
     requires { n < 16 }
     ensures { result ≡ hex_digit n }
 {
-    b"0123456789ABCDEF"[usize::from(n)]
+    if n < 10 { b'0' + n } else { b'A' + (n - 10) }
 }

@@ -2,13 +2,13 @@
 use Rattle.std.proofs.Common.{◌≡◌, ℕ, ◌-◌, ◌<◌, ◌≤◌, ◌≢◌, List, [], ◌∷◌, ◌++◌, length, Some, None, Ok, Err, Option, sym, refl, ap, ◌∙◌, subst, arith, length-append}
 use Rattle.faults.specs.declared.ExchangeFault.{ExchangeFault}
 use Rattle.xid.specs.Answers.{shown}
-use Rattle.xid.specs.Fields.{param_octets, Beginning, nothing, leading, header, parameter, begun, parameters, Whole}
+use Rattle.xid.specs.Fields.{param_octets, Beginning, nothing, leading, header, parameter, begun, last_group, parameters, Whole}
 use Rattle.xid.specs.Moving.{Ahead, GroupStep, GroupBegun, ParameterStep, ParameterTaken}
 use Rattle.xid.specs.Reading.{place, First, Stops, Reading}
-use Rattle.xid.specs.Stands.{unread, Stands}
+use Rattle.xid.specs.Stands.{group_in_hand, unread, Stands}
 use Rattle.xid.specs.declared.cursor.Cursor.{Cursor}
 use Rattle.xid.specs.declared.cursor.Taken.{Taken}
-use Rattle.xid.proofs.Beginnings.{placed, left_whole, no_octets}
+use Rattle.xid.proofs.Beginnings.{placed, left_whole, before_groups, none_in_hand}
 
 -- a cursor behind a beginning and groups' headers alone, and not at the very beginning
 pub record On (os : List ℕ) (b : Beginning) (at : Cursor) : Type 0 where
@@ -22,28 +22,29 @@ pub record On (os : List ℕ) (b : Beginning) (at : Cursor) : Type 0 where
 pub place_is : (os : List ℕ) (at : Cursor) (b : Beginning) → Stands os at b → (p : ℕ) → p ≡ length os - length (unread at) → p ≡ place b
 place_is os at b stands p is = is ∙ placed os b (unread at) stands.begins
 
-module _ (os : List ℕ) (at : Cursor) (b : Beginning) (stands : Stands os at b) (p : ℕ) (is : p ≡ length os - length (unread at)) where
-  -- no octet is read: the reader is new
-  new : p ≡ 0 → b ≡ nothing
-  new none = no_octets b (sym (place_is os at b stands p is) ∙ none)
+module _ (os : List ℕ) (at : Cursor) (b : Beginning) (stands : Stands os at b) where
+  -- no group is in hand: the field's octets are read anew, behind the leading octet at most
+  module _ (none : at.open ≡ None) where
+    early : (parameters b ≡ []) × (place b ≤ 1)
+    early = before_groups b stands.begins.formed (sym stands.group ∙ ap group_in_hand none)
 
-  pub stops-new : p ≡ 0 → (f : ExchangeFault) → First nothing os f → Reading os (parameters b) (Some f)
-  stops-new none f first =
-      record {
-        beginning = nothing;
-        rest = os;
-        begins = record { octets = refl; formed = tt; within = omega arith };
-        stops = first;
-        read = ap parameters (sym (new none));
-      }
+    pub stops-new : (f : ExchangeFault) → First nothing os f → Reading os (parameters b) (Some f)
+    stops-new f first =
+        record {
+          beginning = nothing;
+          rest = os;
+          begins = record { octets = refl; formed = tt; within = omega arith };
+          stops = first;
+          read = sym early.0;
+        }
 
-  pub on_led : p ≡ 0 → (behind : Cursor) → Stands os behind leading → On os b behind
-  on_led none behind led =
-      record { to = leading; stands = led; same = ap parameters (sym (new none)); further = omega (arith, place_is os at b stands p is); some = λ e. let z : ◌≡◌ {A = ℕ} 0 1 = cc in omega arith }
+    pub on_led : (behind : Cursor) → Stands os behind leading → On os b behind
+    on_led behind led =
+        record { to = leading; stands = led; same = sym early.0; further = early.1; some = λ e. let z : ◌≡◌ {A = ℕ} 0 1 = cc in omega arith }
 
-  -- some are read: it is not
-  pub on_still : p ≢ 0 → On os b at
-  on_still some = record { to = b; stands = stands; same = refl; further = omega arith; some = λ e. some (place_is os at b stands p is ∙ ap place e) }
+  -- one is: the leading octet is read
+  pub on_still : at.open ≢ None → On os b at
+  on_still some = record { to = b; stands = stands; same = refl; further = omega arith; some = λ e. some (none_in_hand at.open (stands.group ∙ ap last_group e)) }
 
 module _ (os : List ℕ) (b : Beginning) (at : Cursor) (on : On os b at) (p : ℕ) (is : p ≡ length os - length (unread at)) where
   stops_at : (stop : Option ExchangeFault) → Stops on.to (unread at) stop → Reading os (parameters b) stop

@@ -40,7 +40,7 @@ impl<'a> Reader<'a> {
         ensures { (b : Beginning) → Stands self.now.field.now self.now.cursor b → Ahead self.now.field.now b result }
     {
         let mut at = self.cursor;
-        if at.place(self.field) == 0 {
+        if at.open.is_none() {
             at = Cursor::led(self.field)?;
         }
         loop {

@@ -1,25 +1,27 @@
 -- Reading stops where a move does, and goes on where it does.
 use mathlib.Core.Logic.{∥∥₁_elim}
 use Rattle.std.proofs.Math.Bridge.{le_prop}
+use Rattle.std.proofs.Common.{arith}
+use Rattle.std.proofs.lemmas.Grind.{common_steps}
 use Rattle.std.proofs.lemmas.Result.{err_from_is_err_and}
 use Rattle.xid.proofs.Moves.{stops-new, on_led, on_still, stops-parameter, goes_over_parameter, stops-group, ends, goes_over-header, fewer}
 use Rattle.xid.proofs.reader.Reader.ahead.Goals as goal
-use Rattle.xid.proofs.reader.Reader.ahead.Goals.{then-place-eq0+in_ok-at, else-place-eq0}
+use Rattle.xid.proofs.reader.Reader.ahead.Goals.{then-is_none+in_ok-at, else-is_none}
 
 pub returns-in_err-at : goal.returns-in_err-at
 returns-in_err-at c =
     let p = err_from_is_err_and c.from_residual.result c.from_residual.ensures.1 in
     let r = c.args.self.now in
-    rw (p.1, p.2) (λ b stands. stops-new r.field.now r.cursor b stands c.place.result c.place.ensures c.if-place-eq0.true c.in_err-at.field-0.0 c.in_err-at.ensures)
+    rw (p.1, p.2) (λ b stands. stops-new r.field.now r.cursor b stands (grind (arith, common_steps, c.is_none.ensures)) c.in_err-at.field-0.0 c.in_err-at.ensures)
 
 pub loop-taken-init : goal.loop-taken-init
 loop-taken-init c =
     let r = c.args.self.now in
     λ b stands.
-    elim c.if-place-eq0.branch [
-      | then-place-eq0+in_ok-at w ↦
-          rw w.at-is (on_led r.field.now r.cursor b stands c.place.result c.place.ensures w.if-place-eq0.true w.in_ok-at.at w.in_ok-at.ensures)
-      | else-place-eq0 w ↦ rw w.at-is (on_still r.field.now r.cursor b stands c.place.result c.place.ensures w.if-place-eq0.false)
+    elim c.if-is_none.branch [
+      | then-is_none+in_ok-at w ↦
+          rw w.at-is (on_led r.field.now r.cursor b stands (grind (arith, common_steps, c.is_none.ensures, w.if-is_none.true)) w.in_ok-at.at w.in_ok-at.ensures)
+      | else-is_none w ↦ rw w.at-is (on_still r.field.now r.cursor b stands (λ e. grind (arith, common_steps, c.is_none.ensures, w.if-is_none.false)))
     ]
 
 pub returns-in_err-taken : goal.returns-in_err-taken
