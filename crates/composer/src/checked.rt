@@ -9,9 +9,9 @@ use register::Group;
 
 // How many octets the parameters of each group take.
 #[derive(Clone, Copy)]
-pub(crate) struct Totals {
-    pub(crate) public: usize,
-    pub(crate) private: usize,
+pub struct Totals {
+    pub public: usize,
+    pub private: usize,
 }
 
 impl Totals {

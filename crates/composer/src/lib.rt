@@ -5,6 +5,7 @@ ghost use Rattle.std.specs.Prelude.{◌≡◌};
 ghost use Rattle.composer.specs.Composing.{compose_number, Composed};
 
 use crate::checking::check_items;
+pub use checked::Totals;
 use register::Group;
 
 mod checked;

@@ -3,5 +3,4 @@
 
 mod checking_cases;
 mod debt_cases;
-#[cfg(test)]
-mod paying;
+pub mod paying;
