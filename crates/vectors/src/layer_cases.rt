@@ -92,6 +92,6 @@ mod tests {
         let mut memory = [0xFFu8; 3];
         let mut sink = PackedSink::new(&mut memory, usize::MAX);
         assert_eq!(rt; copy(&mut source, &mut sink), Ok(20));
-        assert!(rt; memory == [0x7E, 0x3C, 0xF1]);
+        assert!(rt; &*sink.finish() == [0x7E, 0x3C, 0xF1].as_slice());
     }
 }

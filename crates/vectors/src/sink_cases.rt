@@ -67,7 +67,7 @@ mod tests {
             sink.put(false)?;
         }
         assert_eq!(rt; sink.put(true), Err(SinkError::NoRoom));
-        assert!(rt; octets == [0x3F, 0x00, 0xA0]);
+        assert!(rt; &*sink.finish() == [0x3F, 0x00, 0xA0].as_slice());
         Ok(())
     }
 
@@ -82,7 +82,7 @@ mod tests {
         assert_eq!(rt; sink.cut_back(2), Err(SinkError::AboveHeld));
         assert_eq!(rt; sink.room(), 3);
         sink.put(true)?;
-        assert!(rt; &octets == b"111d");
+        assert!(rt; &*sink.finish() == b"111d".as_slice());
         Ok(())
     }
 
