@@ -89,11 +89,8 @@ impl Receiver {
                 self.state = State::Hunting { ones: ones + 1 };
                 None
             }
-            (State::Hunting { ones }, false) => {
-                // a zero behind a zero is written nowhere
-                if ones != 0 {
-                    self.state = State::Hunting { ones: 0 };
-                }
+            (State::Hunting { .. }, false) => {
+                self.state = State::Hunting { ones: 0 };
                 None
             }
             (State::Stretch { ones, left_out }, true) => self.one_in_stretch(ones, left_out),

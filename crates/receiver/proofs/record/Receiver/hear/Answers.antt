@@ -1,4 +1,4 @@
-use Rattle.std.proofs.Common.{rules, ◌≡◌, true, false, None, sym, ap, ◌∙◌, subst, arith}
+use Rattle.std.proofs.Common.{rules, ◌≡◌, true, None, sym, subst, arith}
 use Rattle.receiver.specs.declared.record.State.{State}
 use Rattle.receiver.specs.declared.record.State.TheVariants.{Idle, Hunting}
 use Rattle.receiver.proofs.Turns.{Turn, hears, stood, still_heard, still_idle, few_hunting, idle_one, idle_zero, hunting_break, hunting_flag, hunting_one, hunting_zero}
@@ -43,19 +43,12 @@ returns-in-Hunting-true c = λ h was.
     let n = c.in-Hunting-true.ones in
     hears _ c.in-Hunting-true.is-1 (hunting_one c.args.self.now.store h n c.in-Hunting-true.ones-test.1 (stood c.args.self.now (Hunting n) h c.in-Hunting-true.is-0 was))
 
-pub invariant_of-self-then-ones-ne0 : goal.invariant_of-self-then-ones-ne0
-invariant_of-self-then-ones-ne0 c =
-    let n = c.in-Hunting-false.ones in
-    record { heard = still_heard c.args.self.now (Hunting n) c.in-Hunting-false.is-0 (λ h. hunting_zero c.args.self.now.store h n c.in-Hunting-false.ones-test.1) }
+pub invariant_of-self-in-Hunting-false : goal.invariant_of-self-in-Hunting-false
+invariant_of-self-in-Hunting-false c =
+    let n = c.in-Hunting-false.ones-0 in
+    record { heard = still_heard c.args.self.now (Hunting n) c.in-Hunting-false.is-0 (λ h. hunting_zero c.args.self.now.store h n c.in-Hunting-false.ones-0-test.1) }
 
-pub returns-then-ones-ne0 : goal.returns-then-ones-ne0
-returns-then-ones-ne0 c = λ h was.
-    let n = c.in-Hunting-false.ones in
-    hears _ c.in-Hunting-false.is-1 (hunting_zero c.args.self.now.store h n c.in-Hunting-false.ones-test.1 (stood c.args.self.now (Hunting n) h c.in-Hunting-false.is-0 was))
-
-pub returns-else-ones-ne0 : goal.returns-else-ones-ne0
-returns-else-ones-ne0 c = λ h was.
-    let r = c.args.self.now in
-    let zero : c.in-Hunting-false.ones ≡ 0 = search rules in
-    let is : r.state ≡ Hunting 0 = c.in-Hunting-false.is-0 ∙ ap Hunting zero in
-    hears r c.in-Hunting-false.is-1 (subst (λ (s : State). Turn h false None s r.store) (sym is) (hunting_zero r.store h 0 (λ e. omega (arith, e)) (stood r (Hunting 0) h is was)))
+pub returns-in-Hunting-false : goal.returns-in-Hunting-false
+returns-in-Hunting-false c = λ h was.
+    let n = c.in-Hunting-false.ones-0 in
+    hears _ c.in-Hunting-false.is-1 (hunting_zero c.args.self.now.store h n c.in-Hunting-false.ones-0-test.1 (stood c.args.self.now (Hunting n) h c.in-Hunting-false.is-0 was))
